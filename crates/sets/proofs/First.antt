@@ -1,0 +1,58 @@
+-- The laws of the first number that passes a test: it is the smallest, and there is only one. Assumes nothing.
+use mathlib.Core.Path.{_≡_, refl, sym, ap, _∙_}
+use mathlib.Core.Bool.{Bool, true, false, true≢false}
+use mathlib.Core.Option.{Option, none, some}
+use Prim.Native.Nat.{ℕ, zero, suc, _-_, _≤_, _<_}
+use native.Mathlib.Nat.{le-refl, le-antisymm}
+use native.Mathlib.Decide.{decLe}
+use native.Mathlib.Omega.{arith}
+use Rattle.sets.specs.First.{firstFrom, LeastFrom, Smallest}
+
+-- ---- one answer
+
+pub least-unique : {P : ℕ → Type 0} {floor x y : ℕ} → LeastFrom P floor x → LeastFrom P floor y → x ≡ y
+least-unique {x = x} {y = y} a b = le-antisymm (a .least y (b .holds) (b .above)) (b .least x (a .holds) (a .above))
+
+pub smallest-unique : (P : ℕ → Type 0) (floor : ℕ) (a b : Option ℕ) → Smallest P floor a → Smallest P floor b → a ≡ b
+smallest-unique P floor (some x) (some y) a b = ap (λ (z : ℕ). some z) (least-unique a b)
+smallest-unique P floor (some x) none a b = absurd (b x (a .holds) (a .above))
+smallest-unique P floor none (some y) a b = absurd (a y (b .holds) (b .above))
+smallest-unique P floor none none a b = refl
+
+-- the same numbers, said by another property, have the same smallest
+pub smallest-same : (P Q : ℕ → Type 0) (floor : ℕ) → ((y : ℕ) → P y → Q y) → ((y : ℕ) → Q y → P y) → (a : Option ℕ) → Smallest P floor a → Smallest Q floor a
+smallest-same P Q floor to back (some x) a = record { holds = to x (a .holds); above = a .above; least = λ y q l. a .least y (back y q) l }
+smallest-same P Q floor to back none a = λ y q l. a y (back y q) l
+
+-- ---- the first is the smallest
+
+-- a floor that is itself not among them may be raised by one
+raise : (P : ℕ → Type 0) (x : ℕ) (a : Option ℕ) → (P x → ⊥) → Smallest P (suc x) a → Smallest P x a
+raise P x (some y) bad a = record { holds = a .holds; above = omega (arith, a .above); least = λ z p l. a .least z p (up z p l (decLe (suc x) z)) }
+  where
+    up : (z : ℕ) → P z → x ≤ z → Dec (suc x ≤ z) → suc x ≤ z
+    up z p l (yes h) = h
+    up z p l (no h) = let e : z ≡ x = omega arith in absurd (bad (rw e at p))
+raise P x none bad a = λ z p l. go z p l (decLe (suc x) z)
+  where
+    go : (z : ℕ) → P z → x ≤ z → Dec (suc x ≤ z) → ⊥
+    go z p l (yes h) = a z p h
+    go z p l (no h) = let e : z ≡ x = omega arith in bad (rw e at p)
+
+-- Where P is what the test tells of the numbers below top, and holds of no other, the first number from the floor up to top that passes is the right answer.
+module _ (P : ℕ → Type 0) (test : ℕ → Bool) (top : ℕ) (inside : (y : ℕ) → P y → y < top) (to : (y : ℕ) → y < top → test y ≡ true → P y) (back : (y : ℕ) → P y → test y ≡ true) where
+  first-is : (n x : ℕ) → n ≡ top - x → Smallest P x (firstFrom test n x)
+  unfolding firstFrom
+  first-is zero x e = λ y p l. omega (arith, inside y p)
+  first-is (suc n) x e = go (test x) refl (first-is n (suc x) (omega arith))
+    where
+      go : (t : Bool) → test x ≡ t → Smallest P (suc x) (firstFrom test n (suc x)) → Smallest P x (elim t [ true ↦ some x | false ↦ firstFrom test n (suc x) ])
+      go true q r = record { holds = to x (omega arith) q; above = le-refl x; least = λ y p l. l }
+      go false q r = raise P x (firstFrom test n (suc x)) (λ p. true≢false (sym (back x p) ∙ q)) r
+
+  pub first-smallest : (floor : ℕ) → Smallest P floor (firstFrom test (top - floor) floor)
+  first-smallest floor = first-is (top - floor) floor refl
+
+  -- and so whatever is right is that number
+  pub smallest-first : (floor : ℕ) (a : Option ℕ) → Smallest P floor a → a ≡ firstFrom test (top - floor) floor
+  smallest-first floor a r = smallest-unique P floor a (firstFrom test (top - floor) floor) r (first-smallest floor)

@@ -1,0 +1,8 @@
+-- The laws of the definitions, for every width. A crate above cites them by name and looks into no definition.
+pub mod Ranges
+pub mod Bits
+pub mod Made
+pub mod Lowest
+pub mod Counts
+pub mod First
+pub mod Articles

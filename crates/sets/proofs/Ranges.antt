@@ -1,0 +1,306 @@
+-- The laws of tests and ranges. Assumes nothing.
+use mathlib.Core.Path.{_≡_, refl, sym, ap, _∙_}
+use mathlib.Core.Logic.{_⊎_, inl, inr, _≢_}
+use mathlib.Core.Bool.{Bool, true, false, _&&_, _||_, true≢false, false≢true}
+use Prim.Native.Nat.{ℕ, zero, suc, _+_, _-_, _≤_, _<_, zero-le, min, max}
+use native.Mathlib.Nat.{le-refl, le-trans, le-of-eq, eq-or-lt-of-le, le-max-left, le-max-right}
+use native.Mathlib.Numerals.{add-one}
+use native.Mathlib.Omega.{arith}
+use lib.Dec.{leb, eqb}
+use lib.ListN.{length, getD}
+use borrow.Author.Tests.{eq-eqb, ne-eqb, eqb-true, eqb-false, le-leb, leb-true}
+use Rattle.sets.specs.Ranges.{num, given, everyTo, anyTo, sumTo, maxTo, listTo}
+
+-- ---- cases
+
+-- below k + 1: k, or below k
+pub below-cases : {i k : ℕ} → i < suc k → (i ≡ k) ⊎ (i < k)
+below-cases h = eq-or-lt-of-le (omega arith)
+
+pub test-cases : (b : Bool) → (b ≡ true) ⊎ (b ≡ false)
+test-cases true = inl refl
+test-cases false = inr refl
+
+pub same-cases : (a b : ℕ) → (a ≡ b) ⊎ (a ≢ b)
+same-cases a b = go (eqb a b) refl
+  where
+    go : (t : Bool) → eqb a b ≡ t → (a ≡ b) ⊎ (a ≢ b)
+    go true e = inl (eqb-true a b e)
+    go false e = inr (eqb-false a b e)
+
+-- ---- two tests
+
+pub both-true : (a b : Bool) → a && b ≡ true → (a ≡ true) × (b ≡ true)
+both-true true b e = (refl, e)
+both-true false b e = absurd (false≢true e)
+
+pub true-both : (a b : Bool) → a ≡ true → b ≡ true → a && b ≡ true
+true-both true b e f = f
+true-both false b e f = absurd (false≢true e)
+
+pub either-true : (a b : Bool) → a || b ≡ true → (a ≡ true) ⊎ (b ≡ true)
+either-true true b e = inl refl
+either-true false b e = inr e
+
+-- ---- the bit of a test
+
+pub num-le : (b : Bool) → num b ≤ 1
+num-le true = omega arith
+num-le false = omega arith
+
+pub num-true : (b : Bool) → b ≡ true → num b ≡ 1
+num-true b e = ap num e
+
+pub num-false : (b : Bool) → b ≡ false → num b ≡ 0
+num-false b e = ap num e
+
+pub true-num : (b : Bool) → num b ≡ 1 → b ≡ true
+true-num true e = refl
+true-num false e = absurd (omega arith)
+
+pub false-num : (b : Bool) → num b ≡ 0 → b ≡ false
+false-num true e = absurd (omega arith)
+false-num false e = refl
+
+pub num-both : (a b : Bool) → num (a && b) ≡ min (num a) (num b)
+num-both true b = omega (arith, num-le b)
+num-both false b = omega arith
+
+pub num-mono : (a b : Bool) → (a ≡ true → b ≡ true) → num a ≤ num b
+num-mono true b h = le-of-eq (sym (ap num (h refl)))
+num-mono false b h = zero-le
+
+pub same-yes : (a b : ℕ) → a ≡ b → num (eqb a b) ≡ 1
+same-yes a b e = num-true (eqb a b) (eq-eqb a b e)
+
+pub same-no : (a b : ℕ) → a ≢ b → num (eqb a b) ≡ 0
+same-no a b d = num-false (eqb a b) (ne-eqb a b d)
+
+-- a number that is at most b is at most c, as bits
+pub num-le-num : (a b c : ℕ) → b ≤ c → num (leb a b) ≤ num (leb a c)
+num-le-num a b c h = num-mono (leb a b) (leb a c) (λ e. le-leb a c (le-trans (leb-true a b e) h))
+
+-- ---- where a bit is 1
+
+pub given-le : (b x : ℕ) → given b x ≤ x
+given-le zero x = zero-le
+given-le (suc b) x = le-refl x
+
+pub given-yes : (b x : ℕ) → b ≡ 1 → given b x ≡ x
+given-yes b x e = ap (λ (c : ℕ). given c x) e
+
+pub given-no : (b x : ℕ) → b ≡ 0 → given b x ≡ 0
+given-no b x e = ap (λ (c : ℕ). given c x) e
+
+pub given-zero : (b : ℕ) → given b 0 ≡ 0
+given-zero zero = refl
+given-zero (suc b) = refl
+
+pub given-mono : (b : ℕ) {x y : ℕ} → x ≤ y → given b x ≤ given b y
+given-mono zero h = zero-le
+given-mono (suc b) h = h
+
+-- ---- every number, some number
+
+pub every-at : (n : ℕ) (test : ℕ → Bool) → everyTo n test ≡ true → (i : ℕ) → i < n → test i ≡ true
+unfolding everyTo
+every-at zero test e i l = absurd (omega arith)
+every-at (suc k) test e i l = go (test k) refl e (every-at k test) (below-cases l)
+  where
+    go : (t : Bool) → test k ≡ t → elim t [ true ↦ everyTo k test | false ↦ false ] ≡ true
+        → (everyTo k test ≡ true → (i : ℕ) → i < k → test i ≡ true) → (i ≡ k) ⊎ (i < k) → test i ≡ true
+    go true q e r (inl h) = ap test h ∙ q
+    go true q e r (inr h) = r e i h
+    go false q e r c = absurd (false≢true e)
+
+pub at-every : (n : ℕ) (test : ℕ → Bool) → ((i : ℕ) → i < n → test i ≡ true) → everyTo n test ≡ true
+unfolding everyTo
+at-every zero test h = refl
+at-every (suc k) test h = go (test k) (h k (le-refl (suc k))) (at-every k test (λ i l. h i (omega arith)))
+  where
+    go : (t : Bool) → t ≡ true → everyTo k test ≡ true → elim t [ true ↦ everyTo k test | false ↦ false ] ≡ true
+    go true q r = r
+    go false q r = q
+
+pub any-at : (n : ℕ) (test : ℕ → Bool) → anyTo n test ≡ true → (i : ℕ) × (i < n) × (test i ≡ true)
+unfolding anyTo
+any-at zero test e = absurd (false≢true e)
+any-at (suc k) test e = go (test k) refl e (any-at k test)
+  where
+    go : (t : Bool) → test k ≡ t → elim t [ true ↦ true | false ↦ anyTo k test ] ≡ true
+        → (anyTo k test ≡ true → (i : ℕ) × (i < k) × (test i ≡ true)) → (i : ℕ) × (i < suc k) × (test i ≡ true)
+    go true q e r = (k, le-refl (suc k), q)
+    go false q e r = let (i, l, h) = r e in (i, omega arith, h)
+
+pub at-any : (n : ℕ) (test : ℕ → Bool) (i : ℕ) → i < n → test i ≡ true → anyTo n test ≡ true
+unfolding anyTo
+at-any zero test i l e = absurd (omega arith)
+at-any (suc k) test i l e = go (test k) refl (at-any k test i) (below-cases l)
+  where
+    go : (t : Bool) → test k ≡ t → (i < k → test i ≡ true → anyTo k test ≡ true) → (i ≡ k) ⊎ (i < k) → elim t [ true ↦ true | false ↦ anyTo k test ] ≡ true
+    go true q r c = refl
+    go false q r (inl h) = absurd (true≢false (sym e ∙ ap test h ∙ q))
+    go false q r (inr h) = r h e
+
+-- ---- sums
+
+pub sum-mono : (n : ℕ) (f g : ℕ → ℕ) → ((i : ℕ) → i < n → f i ≤ g i) → sumTo n f ≤ sumTo n g
+unfolding sumTo
+sum-mono zero f g h = zero-le
+sum-mono (suc k) f g h = omega (arith, sum-mono k f g (λ i l. h i (omega arith)), h k (le-refl (suc k)))
+
+pub sum-cong : (n : ℕ) (f g : ℕ → ℕ) → ((i : ℕ) → i < n → f i ≡ g i) → sumTo n f ≡ sumTo n g
+unfolding sumTo
+sum-cong zero f g h = refl
+sum-cong (suc k) f g h = omega (arith, sum-cong k f g (λ i l. h i (omega arith)), h k (le-refl (suc k)))
+
+pub sum-zero : (n : ℕ) (f : ℕ → ℕ) → ((i : ℕ) → i < n → f i ≡ 0) → sumTo n f ≡ 0
+unfolding sumTo
+sum-zero zero f h = refl
+sum-zero (suc k) f h = omega (arith, sum-zero k f (λ i l. h i (omega arith)), h k (le-refl (suc k)))
+
+pub sum-add : (n : ℕ) (f g : ℕ → ℕ) → sumTo n (λ i. f i + g i) ≡ sumTo n f + sumTo n g
+unfolding sumTo
+sum-add zero f g = refl
+sum-add (suc k) f g = omega (arith, sum-add k f g)
+
+-- one of them is at most the sum
+pub sum-at : (n : ℕ) (f : ℕ → ℕ) (i : ℕ) → i < n → f i ≤ sumTo n f
+unfolding sumTo
+sum-at zero f i h = omega arith
+sum-at (suc k) f i h = go (sum-at k f i) (below-cases h)
+  where
+    go : (i < k → f i ≤ sumTo k f) → (i ≡ k) ⊎ (i < k) → f i ≤ sumTo k f + f k
+    go r (inl e) = rw e (omega arith)
+    go r (inr l) = omega (arith, r l)
+
+-- the order of two sums may be changed
+pub sum-swap : (n m : ℕ) (f : ℕ → ℕ → ℕ) → sumTo n (λ i. sumTo m (λ j. f i j)) ≡ sumTo m (λ j. sumTo n (λ i. f i j))
+unfolding sumTo
+sum-swap zero m f = sym (sum-zero m (λ j. 0) (λ i l. refl))
+sum-swap (suc k) m f = omega (arith, sum-swap k m f, sum-add m (λ j. sumTo k (λ i. f i j)) (f k))
+
+-- the lowest apart
+pub sum-low : (n : ℕ) (f : ℕ → ℕ) → sumTo (suc n) f ≡ f 0 + sumTo n (λ i. f (suc i))
+unfolding sumTo
+sum-low zero f = omega arith
+sum-low (suc k) f = omega (arith, sum-low k f)
+
+-- more of the range adds what lies there: nothing, where f is 0 there
+pub sum-past : (n m : ℕ) (f : ℕ → ℕ) → n ≤ m → ((i : ℕ) → n ≤ i → f i ≡ 0) → sumTo m f ≡ sumTo n f
+unfolding sumTo
+sum-past n zero f l h = ap (λ (k : ℕ). sumTo k f) (let e : 0 ≡ n = omega arith in e)
+sum-past n (suc m) f l h = go (below-cases (let p : n < suc (suc m) = omega arith in p)) (sum-past n m f)
+  where
+    go : (n ≡ suc m) ⊎ (n < suc m) → (n ≤ m → ((i : ℕ) → n ≤ i → f i ≡ 0) → sumTo m f ≡ sumTo n f) → sumTo m f + f m ≡ sumTo n f
+    go (inl e) r = ap (λ (k : ℕ). sumTo k f) (sym e)
+    go (inr p) r = omega (arith, r (omega arith) h, h m (omega arith))
+
+-- the one at k, and all others
+pub sum-but : (n k : ℕ) (f : ℕ → ℕ) → k < n → sumTo n f ≡ f k + sumTo n (λ i. given (1 - num (eqb i k)) (f i))
+unfolding sumTo
+sum-but zero k f l = absurd (omega arith)
+sum-but (suc n) k f l = go (sum-but n k f) (below-cases l)
+  where
+    rest : ℕ → ℕ
+    rest i = given (1 - num (eqb i k)) (f i)
+
+    other : (i : ℕ) → i ≢ k → rest i ≡ f i
+    other i d = rw (same-no i k d)
+
+    go : (k < n → sumTo n f ≡ f k + sumTo n rest) → (k ≡ n) ⊎ (k < n) → sumTo n f + f n ≡ f k + (sumTo n rest + rest n)
+    go r (inl e) =
+        omega (
+          arith,
+          ap f e,
+          sum-cong n rest f (λ i h. other i (λ q. let z : ⊥ = omega arith in z)),
+          ap (λ (b : ℕ). given (1 - b) (f n)) (same-yes n k (sym e)),
+        )
+    go r (inr h) = omega (arith, r h, other n (λ q. let z : ⊥ = omega arith in z))
+
+-- where no two are above 0, the sum is at most what each is at most
+pub sum-one : (n : ℕ) (f : ℕ → ℕ) (b : ℕ) → ((u : ℕ) → u < n → f u ≤ b) → ((u v : ℕ) → u < v → v < n → min (f u) (f v) ≡ 0) → sumTo n f ≤ b
+unfolding sumTo
+sum-one zero f b h one = zero-le
+sum-one (suc k) f b h one =
+    go (f k) refl (sum-one k f b (λ u l. h u (omega arith)) (λ u v l m. one u v l (omega arith)))
+  where
+    go : (y : ℕ) → f k ≡ y → sumTo k f ≤ b → sumTo k f + f k ≤ b
+    go zero e r = omega arith
+    go (suc y) e r = omega (arith, sum-zero k f (λ u l. omega (arith, one u k l (le-refl (suc k)))), h k (le-refl (suc k)))
+
+-- Where each u of the first n has a class g u of the first m and brings at most c of its class, and no two of one class bring anything,
+-- all together bring at most what the classes add up to.
+pub sum-classes : (n m : ℕ) (g h c : ℕ → ℕ) → ((u : ℕ) → u < n → g u < m) → ((u : ℕ) → u < n → h u ≤ c (g u))
+    → ((u v : ℕ) → u < v → v < n → g u ≡ g v → min (h u) (h v) ≡ 0) → sumTo n h ≤ sumTo m c
+sum-classes n m g h c inside most one =
+    le-trans (sum-mono n h (λ u. sumTo m (brings u)) (λ u l. own u (inside u l)))
+    (le-trans (le-of-eq (sum-swap n m brings))
+    (sum-mono m (λ j. sumTo n (λ u. brings u j)) c (λ j l. sum-one n (λ u. brings u j) (c j) (λ u k. bound u j k (same-cases (g u) j)) (λ u v k k'. single u v j k k' (same-cases (g u) j) (same-cases (g v) j)))))
+  where
+    brings : ℕ → ℕ → ℕ
+    brings u j = given (num (eqb (g u) j)) (h u)
+
+    own : (u : ℕ) → g u < m → h u ≤ sumTo m (brings u)
+    own u l = le-trans (le-of-eq (sym (given-yes (num (eqb (g u) (g u))) (h u) (same-yes (g u) (g u) refl)))) (sum-at m (brings u) (g u) l)
+
+    bound : (u j : ℕ) → u < n → (g u ≡ j) ⊎ (g u ≢ j) → brings u j ≤ c j
+    bound u j l (inl e) = le-trans (given-le (num (eqb (g u) j)) (h u)) (le-trans (most u l) (le-of-eq (ap c e)))
+    bound u j l (inr d) = rw (same-no (g u) j d) zero-le
+
+    single : (u v j : ℕ) → u < v → v < n → (g u ≡ j) ⊎ (g u ≢ j) → (g v ≡ j) ⊎ (g v ≢ j) → min (brings u j) (brings v j) ≡ 0
+    single u v j l k (inl e) (inl e') = omega (arith, one u v l k (e ∙ sym e'), given-le (num (eqb (g u) j)) (h u), given-le (num (eqb (g v) j)) (h v))
+    single u v j l k (inl e) (inr d) = omega (arith, given-no (num (eqb (g v) j)) (h v) (same-no (g v) j d))
+    single u v j l k (inr d) q = omega (arith, given-no (num (eqb (g u) j)) (h u) (same-no (g u) j d))
+
+-- ---- greatest values
+
+-- one of them is at most the greatest
+pub max-at : (n : ℕ) (f : ℕ → ℕ) (i : ℕ) → i < n → f i ≤ maxTo n f
+unfolding maxTo
+max-at zero f i h = omega arith
+max-at (suc k) f i h = go (max-at k f i) (below-cases h)
+  where
+    go : (i < k → f i ≤ maxTo k f) → (i ≡ k) ⊎ (i < k) → f i ≤ max (maxTo k f) (f k)
+    go r (inl e) = rw e (le-max-right (maxTo k f) (f k))
+    go r (inr l) = le-trans (r l) (le-max-left (maxTo k f) (f k))
+
+-- the greatest is at most what all are at most
+pub max-most : (n : ℕ) (f : ℕ → ℕ) (b : ℕ) → ((i : ℕ) → i < n → f i ≤ b) → maxTo n f ≤ b
+unfolding maxTo
+max-most zero f b h = zero-le
+max-most (suc k) f b h = omega (arith, max-most k f b (λ i l. h i (omega arith)), h k (le-refl (suc k)))
+
+pub max-cong : (n : ℕ) (f g : ℕ → ℕ) → ((i : ℕ) → i < n → f i ≡ g i) → maxTo n f ≡ maxTo n g
+unfolding maxTo
+max-cong zero f g h = refl
+max-cong (suc k) f g h = omega (arith, max-cong k f g (λ i l. h i (omega arith)), h k (le-refl (suc k)))
+
+-- ---- lists
+
+pub list-length : (n : ℕ) (f : ℕ → ℕ) → length (listTo n f) ≡ n
+unfolding listTo
+list-length zero f = refl
+list-length (suc n) f = ap suc (list-length n (λ i. f (suc i)))
+
+pub list-at : (n : ℕ) (f : ℕ → ℕ) (i : ℕ) → i < n → getD (listTo n f) i 0 ≡ f i
+unfolding listTo
+list-at zero f i h = omega arith
+list-at (suc n) f zero h = refl
+list-at (suc n) f (suc i) h = list-at n (λ i. f (suc i)) i (omega arith)
+
+pub list-past : (n : ℕ) (f : ℕ → ℕ) (i : ℕ) → n ≤ i → getD (listTo n f) i 0 ≡ 0
+unfolding listTo
+list-past zero f i h = refl
+list-past (suc n) f zero h = omega arith
+list-past (suc n) f (suc i) h = list-past n (λ i. f (suc i)) i (omega arith)
+
+-- ---- one turn of a loop that counts up by `u + 1`
+
+pub sum-turn : (u : ℕ) (f : ℕ → ℕ) → sumTo (u + 1) f ≡ sumTo u f + f u
+unfolding sumTo
+sum-turn u f = rw add-one
+
+pub max-turn : (u : ℕ) (f : ℕ → ℕ) → maxTo (u + 1) f ≡ max (maxTo u f) (f u)
+unfolding maxTo
+max-turn u f = rw add-one

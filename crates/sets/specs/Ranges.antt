@@ -1,0 +1,44 @@
+-- Tests, and what is computed over the numbers 0, 1, .. n - 1. Every definition takes n.
+-- Each goes from n to n - 1 with the number n - 1 last: the shape of a loop that counts up.
+use mathlib.Core.Bool.{Bool, true, false}
+use mathlib.Core.List.{List, [], _∷_}
+use Prim.Native.Nat.{ℕ, zero, suc, _+_, max}
+
+-- ---- tests
+
+-- the bit of a test: 1 where it passes, 0 where it fails
+abbrev pub num : Bool → ℕ
+num true = 1
+num false = 0
+
+-- x where the bit is 1, and 0 where it is 0
+abbrev pub given : ℕ → ℕ → ℕ
+given zero x = 0
+given (suc b) x = x
+
+-- whether every number below n passes
+unfoldable pub everyTo : ℕ → (ℕ → Bool) → Bool
+everyTo zero test = true
+everyTo (suc k) test = elim (test k) [ true ↦ everyTo k test | false ↦ false ]
+
+-- whether some number below n passes
+unfoldable pub anyTo : ℕ → (ℕ → Bool) → Bool
+anyTo zero test = false
+anyTo (suc k) test = elim (test k) [ true ↦ true | false ↦ anyTo k test ]
+
+-- ---- ranges
+
+-- f 0 + f 1 + .. + f (n - 1)
+unfoldable pub sumTo : ℕ → (ℕ → ℕ) → ℕ
+sumTo zero f = 0
+sumTo (suc k) f = sumTo k f + f k
+
+-- the greatest of f 0, f 1, .. f (n - 1); 0 where n is 0
+unfoldable pub maxTo : ℕ → (ℕ → ℕ) → ℕ
+maxTo zero f = 0
+maxTo (suc k) f = max (maxTo k f) (f k)
+
+-- the list f 0, f 1, .. f (n - 1)
+unfoldable pub listTo : ℕ → (ℕ → ℕ) → List ℕ
+listTo zero f = []
+listTo (suc k) f = f 0 ∷ listTo k (λ i. f (suc i))
