@@ -1,0 +1,192 @@
+"""The checks of the gate, one function each. Called by ./test in the repository's root; docs/ARCHITECTURE.md says what each is for.
+
+A check returns how many things it saw pass, and raises Failed with the reason where one did not.
+A check that finds nothing to look at fails: one that looked at nothing has shown nothing.
+"""
+import hashlib
+import os
+import pathlib
+import re
+import subprocess
+import sys
+
+ROOT = pathlib.Path(".")
+# A refusal that only says that the proof file no longer has the code's shape: it shows nothing about the contract.
+LOST_SHAPE = re.compile(r"has no `Need-|has no field")
+
+
+class Failed(Exception):
+    pass
+
+
+def demand(condition, reason):
+    if not condition:
+        raise Failed(reason)
+
+
+def crates():
+    """The names of crates.txt."""
+    lines = (line.split("#")[0].strip() for line in (ROOT / "crates.txt").read_text().splitlines())
+    return [line.split(":")[0].strip() for line in lines if line]
+
+
+def programs():
+    return [name for name in crates() if (ROOT / "crates" / name / "src" / "main.rt").exists()]
+
+
+def edits():
+    return sorted((ROOT / "crates").glob("*/must-fail/*.edit"))
+
+
+def verdict(name):
+    """The last line of a crate's check: `logic=proved functions=.. axioms=..`."""
+    log = ROOT / "target" / "log" / f"{name}.out"
+    demand(log.exists(), f"{log} is missing")
+    lines = [line for line in log.read_text().splitlines() if line.startswith("logic=")]
+    demand(lines, f"{log} has no verdict")
+    return lines[-1]
+
+
+# ---- the checks
+
+
+def prove_and_run():
+    """rt ci, from nothing: every crate proved, every must-fail edit refused, every program's output as stored."""
+    run = subprocess.Popen(["rt", "ci"], stdin=subprocess.DEVNULL, stdout=subprocess.PIPE, stderr=subprocess.STDOUT, text=True)
+    last = ""
+    for line in run.stdout:
+        print(line, end="", flush=True)
+        last = line.strip() or last
+    status = run.wait()
+    counted = re.fullmatch(r"([1-9][0-9]*) passed, 0 failed", last)
+    demand(status == 0, f"rt ci ended with status {status}")
+    demand(counted, f"rt ci's last line is '{last}'")
+    return int(counted[1])
+
+
+def refused_for_a_fact():
+    """Each must-fail edit was refused because a fact fails, not because a proof file lost its shape."""
+    demand(edits(), "there is no must-fail edit")
+    for edit in edits():
+        name, label = edit.parts[-3], edit.stem
+        log = ROOT / "target" / "must-fail" / name / label / ".log"
+        demand(log.exists(), f"{log} is missing")
+        errors = [line for line in log.read_text().splitlines() if " error: " in line]
+        demand(errors, f"{log} has no error")
+        demand(not LOST_SHAPE.search(errors[0]), f"{name}/{label} only lost the proof's shape: {errors[0]}")
+    return len(edits())
+
+
+def layout():
+    """rt fmt --check."""
+    run = subprocess.run(["rt", "fmt", "--check"], stdin=subprocess.DEVNULL, capture_output=True, text=True)
+    demand(run.returncode == 0, "rt fmt --check: " + (run.stdout + run.stderr).strip())
+    return 1
+
+
+def nothing_foreign():
+    """No crate declares a C function of its own."""
+    for name in crates():
+        demand(verdict(name).startswith("logic=proved "), f"{name}: {verdict(name)}")
+        demand("foreign=" not in verdict(name), f"{name} declares C functions: {verdict(name)}")
+    return len(crates())
+
+
+def assumptions_as_stated():
+    """Each program assumes as many C functions as README.md says, in a row with `NAME` and `axioms=N`."""
+    readme = (ROOT / "README.md").read_text()
+    demand(programs(), "there is no program")
+    for name in programs():
+        stated = re.search(rf"`{name}`[^\n]*`axioms=(\d+)`", readme)
+        demand(stated, f"README.md does not state the axioms of {name}")
+        counted = re.search(r"\baxioms=(\d+)", verdict(name))
+        counted = counted[1] if counted else "0"
+        demand(stated[1] == counted, f"README.md states axioms={stated[1]} of {name}, the check counts {counted}")
+    return len(programs())
+
+
+def trace():
+    """Every name in docs/TRACE.md stands in crates/ or is a file of the repository, and every must-fail edit stands in docs/TRACE.md."""
+    text = (ROOT / "docs" / "TRACE.md").read_text()
+    names = sorted({part for quoted in re.findall(r"`([^`\n]+)`", text) for part in quoted.split("::")})
+    demand(names, "docs/TRACE.md names nothing")
+    files = [path for path in (ROOT / "crates").rglob("*") if path.is_file()]
+    words = set(crates()) | {path.stem for path in files}
+    for path in files:
+        words.update(re.findall(r"[^\s()\[\]{}.,;:`\"@]+", path.read_text()))
+    absent = [name for name in names if name not in words and not (ROOT / name).exists()]
+    demand(not absent, "docs/TRACE.md names what is not there: " + ", ".join(absent))
+    untraced = [edit.stem for edit in edits() if f"`{edit.stem}`" not in text]
+    demand(not untraced, "docs/TRACE.md lacks the must-fail edits " + ", ".join(untraced))
+    return len(names)
+
+
+def documents():
+    """Every crate has its paragraph in docs/ARCHITECTURE.md, and every relative link of the documents leads to a file."""
+    for name in crates():
+        demand(f"### `{name}`" in (ROOT / "docs" / "ARCHITECTURE.md").read_text(), f"docs/ARCHITECTURE.md has no paragraph on {name}")
+    links = 0
+    for page in [ROOT / "README.md", *sorted((ROOT / "docs").rglob("*.md"))]:
+        for target in re.findall(r"\]\(([^)#\s]+)[^)]*\)", page.read_text()):
+            demand("://" in target or (page.parent / target).exists(), f"{page}: no file {target}")
+            links += 1
+    demand(links, "the documents have no link")
+    return len(crates()) + links
+
+
+def second_program():
+    """What reference/ says that a program prints is what the program, just built, prints."""
+    expected = subprocess.run([sys.executable, "-B", "reference/sets.py"], stdin=subprocess.DEVNULL, capture_output=True, text=True)
+    demand(expected.returncode == 0, "reference/sets.py: " + expected.stderr.strip())
+    printed = subprocess.run(["target/bin/show_sets"], stdin=subprocess.DEVNULL, capture_output=True, text=True)
+    demand(printed.returncode == 0, f"show_sets ended with status {printed.returncode}")
+    ours, theirs = printed.stdout.splitlines(), expected.stdout.splitlines()
+    demand(theirs, "reference/sets.py prints nothing")
+    for number, (a, b) in enumerate(zip(ours, theirs), 1):
+        demand(a == b, f"line {number}: show_sets prints '{a}', reference/sets.py '{b}'")
+    demand(printed.stdout == expected.stdout, f"show_sets prints {len(ours)} lines, reference/sets.py {len(theirs)}")
+    return len(theirs)
+
+
+def snapshot():
+    """What stands in the tree beside target/ and .git/."""
+    seen = {}
+    for base, folders, names in os.walk(ROOT):
+        folders[:] = [f for f in folders if os.path.join(base, f) not in ("./target", "./.git")]
+        for name in names:
+            path = os.path.join(base, name)
+            seen[path] = hashlib.sha256(open(path, "rb").read()).hexdigest()
+    return seen
+
+
+CHECKS = [prove_and_run, refused_for_a_fact, layout, nothing_foreign, assumptions_as_stated, trace, documents, second_program]
+
+
+def main():
+    before = snapshot()
+
+    def leaves_the_tree_clean():
+        """The gate itself writes nothing beside target/."""
+        after = snapshot()
+        changed = sorted(path for path in before.keys() | after.keys() if before.get(path) != after.get(path))
+        demand(not changed, "the gate changed " + ", ".join(changed))
+        return len(before)
+
+    passed = failed = 0
+    for check in [*CHECKS, leaves_the_tree_clean]:
+        try:
+            seen = check()
+        except Failed as reason:
+            failed += 1
+            print(f"FAILED {check.__name__}: {reason}", flush=True)
+        except Exception as trouble:  # a check that breaks has not passed
+            failed += 1
+            print(f"FAILED {check.__name__}: {type(trouble).__name__}: {trouble}", flush=True)
+        else:
+            passed += seen if check is prove_and_run else 1
+            print(f"ok {check.__name__}: {seen}", flush=True)
+    print(f"{passed} passed, {failed} failed")
+    return 1 if failed else 0
+
+
+sys.exit(main())
