@@ -199,8 +199,8 @@ yes-member s i t = eqb-true (bit s i) 1 t
 pub member-no : (s i : ℕ) → bit s i ≡ 0 → member s i ≡ false
 member-no s i e = ne-eqb (bit s i) 1 (λ q. let z : ⊥ = omega arith in z)
 
-pub no-in : (s i : ℕ) → member s i ≡ false → bit s i ≡ 0
-no-in s i t = go (bit-cases s i)
+pub not-member : (s i : ℕ) → member s i ≡ false → bit s i ≡ 0
+not-member s i t = go (bit-cases s i)
   where
     go : (bit s i ≡ 0) ⊎ (bit s i ≡ 1) → bit s i ≡ 0
     go (inl z) = z

@@ -6,3 +6,4 @@ pub mod Lowest
 pub mod Counts
 pub mod First
 pub mod Articles
+pub mod Computed

@@ -2,12 +2,14 @@
 use mathlib.Core.Path.{_≡_, refl, sym, ap, _∙_}
 use mathlib.Core.Logic.{_⊎_, inl, inr, _≢_}
 use mathlib.Core.Bool.{Bool, true, false, _&&_, _||_, true≢false, false≢true}
+use mathlib.Core.List.{[], _∷_, _++_}
 use Prim.Native.Nat.{ℕ, zero, suc, _+_, _-_, _≤_, _<_, zero-le, min, max}
 use native.Mathlib.Nat.{le-refl, le-trans, le-of-eq, eq-or-lt-of-le, le-max-left, le-max-right}
 use native.Mathlib.Numerals.{add-one}
 use native.Mathlib.Omega.{arith}
 use lib.Dec.{leb, eqb}
-use lib.ListN.{length, getD}
+use lib.ListN.{length, getD, length-append, List·getD-append, List·getD-eq-default}
+use lib.Seq.{getD-at}
 use borrow.Author.Tests.{eq-eqb, ne-eqb, eqb-true, eqb-false, le-leb, leb-true}
 use Rattle.sets.specs.Ranges.{num, given, everyTo, anyTo, sumTo, maxTo, listTo}
 
@@ -281,19 +283,19 @@ max-cong (suc k) f g h = omega (arith, max-cong k f g (λ i l. h i (omega arith)
 pub list-length : (n : ℕ) (f : ℕ → ℕ) → length (listTo n f) ≡ n
 unfolding listTo
 list-length zero f = refl
-list-length (suc n) f = ap suc (list-length n (λ i. f (suc i)))
+list-length (suc k) f = length-append (listTo k f) (f k ∷ []) ∙ omega (arith, list-length k f)
 
 pub list-at : (n : ℕ) (f : ℕ → ℕ) (i : ℕ) → i < n → getD (listTo n f) i 0 ≡ f i
 unfolding listTo
 list-at zero f i h = omega arith
-list-at (suc n) f zero h = refl
-list-at (suc n) f (suc i) h = list-at n (λ i. f (suc i)) i (omega arith)
+list-at (suc k) f i h = go (list-at k f i) (below-cases h)
+  where
+    go : (i < k → getD (listTo k f) i 0 ≡ f i) → (i ≡ k) ⊎ (i < k) → getD (listTo k f ++ (f k ∷ [])) i 0 ≡ f i
+    go r (inl e) = getD-at (listTo k f) (f k) [] 0 i (list-length k f ∙ sym e) ∙ ap f (sym e)
+    go r (inr l) = List·getD-append (listTo k f) (f k ∷ []) 0 i (rw list-length l) ∙ r l
 
 pub list-past : (n : ℕ) (f : ℕ → ℕ) (i : ℕ) → n ≤ i → getD (listTo n f) i 0 ≡ 0
-unfolding listTo
-list-past zero f i h = refl
-list-past (suc n) f zero h = omega arith
-list-past (suc n) f (suc i) h = list-past n (λ i. f (suc i)) i (omega arith)
+list-past n f i h = List·getD-eq-default (listTo n f) 0 (rw list-length h)
 
 -- ---- one turn of a loop that counts up by `u + 1`
 
@@ -304,3 +306,7 @@ sum-turn u f = rw add-one
 pub max-turn : (u : ℕ) (f : ℕ → ℕ) → maxTo (u + 1) f ≡ max (maxTo u f) (f u)
 unfolding maxTo
 max-turn u f = rw add-one
+
+pub list-turn : (u : ℕ) (f : ℕ → ℕ) → listTo (u + 1) f ≡ listTo u f ++ (f u ∷ [])
+unfolding listTo
+list-turn u f = rw add-one

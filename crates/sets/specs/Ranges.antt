@@ -1,7 +1,7 @@
--- Tests, and what is computed over the numbers 0, 1, .. n - 1. Every definition takes n.
--- Each goes from n to n - 1 with the number n - 1 last: the shape of a loop that counts up.
+-- Tests, and what is computed over the numbers 0, 1, .. n - 1. Every definition takes n, and adds the number n - 1 to what it gives for n - 1:
+-- the shape of a loop that counts up.
 use mathlib.Core.Bool.{Bool, true, false}
-use mathlib.Core.List.{List, [], _∷_}
+use mathlib.Core.List.{List, [], _∷_, _++_}
 use Prim.Native.Nat.{ℕ, zero, suc, _+_, max}
 
 -- ---- tests
@@ -41,4 +41,4 @@ maxTo (suc k) f = max (maxTo k f) (f k)
 -- the list f 0, f 1, .. f (n - 1)
 unfoldable pub listTo : ℕ → (ℕ → ℕ) → List ℕ
 listTo zero f = []
-listTo (suc k) f = f 0 ∷ listTo k (λ i. f (suc i))
+listTo (suc k) f = listTo k f ++ (f k ∷ [])
