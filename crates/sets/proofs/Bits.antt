@@ -85,23 +85,30 @@ ext-below (suc k) a b ha hb h =
 pub ext : (a b : ℕ) → ((i : ℕ) → bit a i ≡ bit b i) → a ≡ b
 ext a b h = ext-below (a + b) a b (below-left a b) (below-right a b) (λ i l. h i)
 
+-- the same, by the bit t and the others
+pub ext-at : (t a b : ℕ) → bit a t ≡ bit b t → ((i : ℕ) → i ≢ t → bit a i ≡ bit b i) → a ≡ b
+ext-at t a b here else = ext a b (λ i. go i (ℕ-discrete i t))
+  where
+    go : (i : ℕ) → Dec (i ≡ t) → bit a i ≡ bit b i
+    go i (yes q) = rw q here
+    go i (no d) = else i d
+
 -- ---- the bits of and, or, without
 
-pub bit-and : (a b i : ℕ) → bit (bitAnd a b) i ≡ min (bit a i) (bit b i)
+-- an operation that works bit by bit
+bit-by-bit : (op f : ℕ → ℕ → ℕ) → ((a b k : ℕ) → op a b / 2 ^ k ≡ op (a / 2 ^ k) (b / 2 ^ k)) → ((a b : ℕ) → op a b ≡ op (a / 2) (b / 2) * 2 + f (a % 2) (b % 2))
+    → ((x y : ℕ) → f (x % 2) (y % 2) < 2) → (a b i : ℕ) → bit (op a b) i ≡ f (bit a i) (bit b i)
 unfolding bit
-bit-and a b i =
+bit-by-bit op f shift step low a b i =
     let x = a / 2 ^ i in
     let y = b / 2 ^ i in
-    let m : min (x % 2) (y % 2) < 2 = omega arith in
-    ap (λ (z : ℕ). z % 2) (and-shr a b i ∙ and-step x y) ∙ digits-mod (bitAnd (x / 2) (y / 2)) m
+    ap (λ (z : ℕ). z % 2) (shift a b i ∙ step x y) ∙ digits-mod (op (x / 2) (y / 2)) (low x y)
+
+pub bit-and : (a b i : ℕ) → bit (bitAnd a b) i ≡ min (bit a i) (bit b i)
+bit-and = bit-by-bit bitAnd min and-shr and-step (λ x y. omega arith)
 
 pub bit-or : (a b i : ℕ) → bit (bitOr a b) i ≡ max (bit a i) (bit b i)
-unfolding bit
-bit-or a b i =
-    let x = a / 2 ^ i in
-    let y = b / 2 ^ i in
-    let m : max (x % 2) (y % 2) < 2 = omega arith in
-    ap (λ (z : ℕ). z % 2) (or-shr a b i ∙ or-step x y) ∙ digits-mod (bitOr (x / 2) (y / 2)) m
+bit-or = bit-by-bit bitOr max or-shr or-step (λ x y. omega arith)
 
 without-low : (a b : ℕ) → without a b % 2 ≡ a % 2 - b % 2
 unfolding without
@@ -269,12 +276,20 @@ less-same s t = omega (arith, bit-without s (2 ^ t) t, bit-one t, bit-le s t)
 pub less-other : (s t i : ℕ) → i ≢ t → bit (without s (2 ^ t)) i ≡ bit s i
 less-other s t i d = omega (arith, bit-without s (2 ^ t) i, bit-other t i d)
 
+-- less a member that it lacks, a set is the same
+pub less-again : (s t : ℕ) → bit s t ≡ 0 → without s (2 ^ t) ≡ s
+less-again s t z = ext-at t (without s (2 ^ t)) s (less-same s t ∙ sym z) (less-other s t)
+
 -- with one member more
 pub more-same : (s t : ℕ) → t ∈ bitOr s (2 ^ t)
 more-same s t = omega (arith, bit-or s (2 ^ t) t, bit-one t, bit-le s t)
 
 pub more-other : (s t i : ℕ) → i ≢ t → bit (bitOr s (2 ^ t)) i ≡ bit s i
 more-other s t i d = omega (arith, bit-or s (2 ^ t) i, bit-other t i d)
+
+-- with a member that it has, a set is the same
+pub more-again : (s t : ℕ) → t ∈ s → bitOr s (2 ^ t) ≡ s
+more-again s t e = ext-at t (bitOr s (2 ^ t)) s (more-same s t ∙ sym e) (more-other s t)
 
 pub in-more : (s t i : ℕ) → i ∈ bitOr s (2 ^ t) → (i ≡ t) ⊎ (i ∈ s)
 in-more s t i e = go (ℕ-discrete i t)
@@ -332,11 +347,8 @@ more-add s t z = or-disjoint s (2 ^ t) (in-apart s (2 ^ t) (λ i e o. member-dif
 
 -- a set less one of its members, and that member, make the set
 pub less-more : (s t : ℕ) → t ∈ s → bitOr (without s (2 ^ t)) (2 ^ t) ≡ s
-less-more s t e = ext (bitOr (without s (2 ^ t)) (2 ^ t)) s (λ i. go i (ℕ-discrete i t))
-  where
-    go : (i : ℕ) → Dec (i ≡ t) → bit (bitOr (without s (2 ^ t)) (2 ^ t)) i ≡ bit s i
-    go i (yes q) = ap (λ (j : ℕ). bit (bitOr (without s (2 ^ t)) (2 ^ t)) j) q ∙ more-same (without s (2 ^ t)) t ∙ sym e ∙ ap (bit s) (sym q)
-    go i (no d) = more-other (without s (2 ^ t)) t i d ∙ less-other s t i d
+less-more s t e =
+    ext-at t (bitOr (without s (2 ^ t)) (2 ^ t)) s (more-same (without s (2 ^ t)) t ∙ sym e) (λ i d. more-other (without s (2 ^ t)) t i d ∙ less-other s t i d)
 
 pub less-add : (s t : ℕ) → t ∈ s → without s (2 ^ t) + 2 ^ t ≡ s
 less-add s t e = sym (more-add (without s (2 ^ t)) t (less-same s t)) ∙ less-more s t e

@@ -1,5 +1,5 @@
--- Tests, and what is computed over the numbers 0, 1, .. n - 1. Every definition takes n, and adds the number n - 1 to what it gives for n - 1:
--- the shape of a loop that counts up.
+-- Tests, and what is computed over the numbers 0, 1, .. n - 1. Every definition over a range takes its length n, and makes what it gives
+-- for k + 1 from what it gives for k and the number k: the shape of a loop that counts up.
 use mathlib.Core.Bool.{Bool, true, false}
 use mathlib.Core.List.{List, [], _∷_, _++_}
 use Prim.Native.Nat.{ℕ, zero, suc, _+_, max}

@@ -1,4 +1,4 @@
--- Sets of numbers as numbers (docs/RULES.md, "Job files"): bit i stands for member i, and a set's number is the sum of 2 ^ i over its members.
+-- Sets of numbers as numbers (docs/RULES.md, "Job files"): i is a member of s exactly where bit i of s is 1.
 -- A bit is a number, 0 or 1, so that linear arithmetic does the reasoning on sets. No definition here knows a width:
 -- a number has as many bits as one asks for, and where a range is meant its length n is a parameter.
 use mathlib.Core.Path.{_≡_}
@@ -44,7 +44,7 @@ everyPair n s test = everyTo n (λ v. not (member s v) || everyTo v (λ u. not (
 abbrev pub full : ℕ → ℕ
 full n = 2 ^ n - 1
 
--- those numbers below n that pass the test
+-- those numbers below n that pass the test: the sum of 2 ^ i over them
 unfoldable pub setOf : ℕ → (ℕ → Bool) → ℕ
 setOf n test = sumTo n (λ i. num (test i) * 2 ^ i)
 
@@ -65,7 +65,7 @@ countIn zero s = 0
 countIn (suc d) zero = 0
 countIn (suc d) (suc s) = suc s % 2 + countIn d (suc s / 2)
 
--- how many members s has: a number s has at most s bits
+-- how many members s has: the bits of s from bit s on are 0
 unfoldable pub count : ℕ → ℕ
 count s = countIn s s
 

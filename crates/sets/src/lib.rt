@@ -1,7 +1,7 @@
 // Sets of articles, and the operations on words that the crates above share.
 //
-// A set is a number by its bits: bit i stands for member i. The definitions stand in specs/, for
-// any width; here they meet words of 64 bits.
+// A set is a number: bit i is 1 where i is a member. The definitions stand in specs/, for any
+// width; here they meet words of 64 bits.
 ghost use mathlib.Core.Path.{_≡_};
 ghost use mathlib.Core.Bool.{cond};
 ghost use Prim.Native.Nat.{_^_};
