@@ -1,13 +1,14 @@
 -- The laws of the count of members. A count is the sum of the bits, so a law on counts is a law on sums. Assumes nothing.
 use mathlib.Core.Path.{_≡_, refl, sym, ap, ap₂, _∙_}
+use mathlib.Core.Bool.{Bool, true, false}
 use Prim.Native.Nat.{ℕ, zero, suc, _+_, _-_, _/_, _%_, _^_, _≤_, _<_}
-use native.Mathlib.Nat.{le-refl, pow-suc}
+use native.Mathlib.Nat.{le-refl, le-trans, le-of-eq, pow-suc}
 use native.Mathlib.Omega.{arith}
 use lib.Arith.{half-le, lt-one}
-use lib.Bits.{bitAnd, bitOr, or-lt, and-le-l}
+use lib.Bits.{bitAnd, bitOr, or-lt, and-le-l, and-zero-l}
 use lib.Count.{ones, ones-step, ones-le, ones-ones}
-use Rattle.sets.specs.Ranges.{sumTo}
-use Rattle.sets.specs.Sets.{bit, _∈_, without, _⊆_, full, unionTo, countIn, count}
+use Rattle.sets.specs.Ranges.{given, sumTo}
+use Rattle.sets.specs.Sets.{bit, _∈_, member, without, _⊆_, full, unionTo, gathered, countIn, count}
 use Rattle.sets.proofs.Ranges.{sum-low, sum-mono, sum-cong, sum-add}
 use Rattle.sets.proofs.Bits.{bit-low, bit-suc, bit-and, bit-or, bit-without, half-below, below-pow, below-left, below-right, without-le, only-one, in-apart, member-differs, less-same, less-more}
 
@@ -124,7 +125,18 @@ count-union (suc k) f q =
           (λ i. omega (arith, bit-and (bitOr a (f k)) q i, bit-or a (f k) i, bit-or (bitAnd a q) (bitAnd (f k) q) i, bit-and a q i, bit-and (f k) q i)),
     )
 
--- a part of a union is counted by the union's parts
+-- a part of a union is counted by the parts of the union
 pub count-covered : (n : ℕ) (f : ℕ → ℕ) (q : ℕ) → q ⊆ unionTo n f → count q ≤ sumTo n (λ u. count (bitAnd (f u) q))
 count-covered n f q h =
     omega (arith, count-union n f q, count-part q (bitAnd (unionTo n f) q) (λ i. omega (arith, h i, bit-and (unionTo n f) q i)))
+
+-- a part of what members have together is counted by what each member has of it
+pub count-gathered : (n : ℕ) (f : ℕ → ℕ) (s q : ℕ) → q ⊆ gathered n s f → count q ≤ sumTo n (λ u. given (member s u) (count (bitAnd (f u) q)))
+unfolding gathered
+count-gathered n f s q h =
+    le-trans (count-covered n (λ u. given (member s u) (f u)) q h)
+    (le-of-eq (sum-cong n (λ u. count (bitAnd (given (member s u) (f u)) q)) (λ u. given (member s u) (count (bitAnd (f u) q))) (λ u l. inside (member s u) (f u))))
+  where
+    inside : (t : Bool) (x : ℕ) → count (bitAnd (given t x) q) ≡ given t (count (bitAnd x q))
+    inside true x = refl
+    inside false x = ap count (and-zero-l q) ∙ count-empty

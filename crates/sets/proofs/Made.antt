@@ -1,5 +1,5 @@
 -- The laws of sets that are made: by a test, as a union, from the members of another set, as a complement. Assumes nothing.
-use mathlib.Core.Path.{_≡_, sym, ap, _∙_}
+use mathlib.Core.Path.{_≡_, refl, sym, ap, _∙_}
 use mathlib.Core.Logic.{_⊎_, inl, inr}
 use mathlib.Core.Bool.{Bool, true, false}
 use Prim.Native.Nat.{ℕ, zero, suc, _+_, _-_, _*_, _/_, _%_, _^_, _≤_, _<_}
@@ -11,9 +11,9 @@ use lib.Arith.{digits-mod, digits-div}
 use lib.Pow.{pow-pos, pow-lt}
 use lib.Bits.{bitAnd, bitOr, or-lt, or-zero-r}
 use Rattle.sets.specs.Ranges.{num, given, sumTo}
-use Rattle.sets.specs.Sets.{bit, _∈_, without, _⊆_, full, setOf, unionTo, gathered}
+use Rattle.sets.specs.Sets.{bit, _∈_, member, without, _⊆_, full, setOf, unionTo, gathered}
 use Rattle.sets.proofs.Ranges.{below-cases, num-le, num-true, true-num, sum-cong, given-yes}
-use Rattle.sets.proofs.Bits.{bit-le, bit-cases, bit-low, bit-suc, bit-high, bit-empty, ext, bit-and, bit-or, bit-without, bit-minus, bit-full, part-in, in-part, part-full, member-below, no-member, more-add, less-in}
+use Rattle.sets.proofs.Bits.{member-yes, yes-member, bit-le, bit-cases, bit-low, bit-suc, bit-high, bit-empty, ext, bit-and, bit-or, bit-without, bit-minus, bit-full, part-in, in-part, part-full, member-below, no-member, more-add, less-in}
 
 -- ---- those that pass a test
 
@@ -115,22 +115,23 @@ union-below w (suc k) f h = or-lt w (unionTo k f) (f k) (union-below w k f (λ u
 
 -- ---- what the members of a set have together
 
--- a set where a bit is 1: its members
-pub given-in : (b s i : ℕ) → b ≤ 1 → i ∈ given b s → (b ≡ 1) × (i ∈ s)
-given-in zero s i l e = absurd (omega (arith, bit-empty i))
-given-in (suc b) s i l e = (omega arith, e)
+-- a member of a set that stands only where a test passes
+pub given-in : (t : Bool) (s i : ℕ) → i ∈ given t s → (t ≡ true) × (i ∈ s)
+given-in true s i e = (refl, e)
+given-in false s i e = absurd (omega (arith, bit-empty i))
 
 module _ (n : ℕ) (f : ℕ → ℕ) where
   pub gathered-at : (s a : ℕ) → a < n → a ∈ s → f a ⊆ gathered n s f
   unfolding gathered
-  gathered-at s a l e i = omega (arith, union-at n (λ a. given (bit s a) (f a)) a l i, ap (λ (x : ℕ). bit x i) (given-yes (bit s a) (f a) e))
+  gathered-at s a l e i =
+      omega (arith, union-at n (λ a. given (member s a) (f a)) a l i, ap (λ (x : ℕ). bit x i) (given-yes (member s a) (f a) (member-yes s a e)))
 
   pub gathered-from : (s i : ℕ) → i ∈ gathered n s f → (a : ℕ) × (a < n) × (a ∈ s) × (i ∈ f a)
   unfolding gathered
   gathered-from s i e =
-      let (a, l, g) = union-from n (λ a. given (bit s a) (f a)) i e in
-      let (b, m) = given-in (bit s a) (f a) i (bit-le s a) g in
-      (a, l, b, m)
+      let (a, l, g) = union-from n (λ a. given (member s a) (f a)) i e in
+      let (t, m) = given-in (member s a) (f a) i g in
+      (a, l, yes-member s a t, m)
 
   pub gathered-mono : (s t : ℕ) → s ⊆ t → gathered n s f ⊆ gathered n t f
   gathered-mono s t h =

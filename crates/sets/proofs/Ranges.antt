@@ -1,7 +1,7 @@
 -- The laws of tests and ranges. Assumes nothing.
 use mathlib.Core.Path.{_≡_, refl, sym, ap, _∙_}
 use mathlib.Core.Logic.{_⊎_, inl, inr, _≢_}
-use mathlib.Core.Bool.{Bool, true, false, _&&_, _||_, true≢false, false≢true}
+use mathlib.Core.Bool.{Bool, true, false, not, _&&_, _||_, true≢false, false≢true}
 use mathlib.Core.List.{[], _∷_, _++_}
 use Prim.Native.Nat.{ℕ, zero, suc, _+_, _-_, _≤_, _<_, zero-le, min, max}
 use native.Mathlib.Nat.{le-refl, le-trans, le-of-eq, eq-or-lt-of-le, le-max-left, le-max-right}
@@ -82,25 +82,29 @@ same-no a b d = num-false (eqb a b) (ne-eqb a b d)
 pub num-le-num : (a b c : ℕ) → b ≤ c → num (leb a b) ≤ num (leb a c)
 num-le-num a b c h = num-mono (leb a b) (leb a c) (λ e. le-leb a c (le-trans (leb-true a b e) h))
 
--- ---- where a bit is 1
+-- ---- where a test passes
 
-pub given-le : (b x : ℕ) → given b x ≤ x
-given-le zero x = zero-le
-given-le (suc b) x = le-refl x
+pub given-yes : (t : Bool) (x : ℕ) → t ≡ true → given t x ≡ x
+given-yes t x e = ap (λ (b : Bool). given b x) e
 
-pub given-yes : (b x : ℕ) → b ≡ 1 → given b x ≡ x
-given-yes b x e = ap (λ (c : ℕ). given c x) e
+pub given-no : (t : Bool) (x : ℕ) → t ≡ false → given t x ≡ 0
+given-no t x e = ap (λ (b : Bool). given b x) e
 
-pub given-no : (b x : ℕ) → b ≡ 0 → given b x ≡ 0
-given-no b x e = ap (λ (c : ℕ). given c x) e
+pub given-le : (t : Bool) (x : ℕ) → given t x ≤ x
+given-le true x = le-refl x
+given-le false x = zero-le
 
-pub given-zero : (b : ℕ) → given b 0 ≡ 0
-given-zero zero = refl
-given-zero (suc b) = refl
+pub given-zero : (t : Bool) → given t 0 ≡ 0
+given-zero true = refl
+given-zero false = refl
 
-pub given-mono : (b : ℕ) {x y : ℕ} → x ≤ y → given b x ≤ given b y
-given-mono zero h = zero-le
-given-mono (suc b) h = h
+pub given-mono : (t : Bool) {x y : ℕ} → x ≤ y → given t x ≤ given t y
+given-mono true h = h
+given-mono false h = zero-le
+
+pub given-both : (a b : Bool) (x : ℕ) → given (a && b) x ≡ given a (given b x)
+given-both true b x = refl
+given-both false b x = refl
 
 -- ---- every number, some number
 
@@ -199,16 +203,16 @@ sum-past n (suc m) f l h = go (below-cases (let p : n < suc (suc m) = omega arit
     go (inr p) r = omega (arith, r (omega arith) h, h m (omega arith))
 
 -- the one at k, and all others
-pub sum-but : (n k : ℕ) (f : ℕ → ℕ) → k < n → sumTo n f ≡ f k + sumTo n (λ i. given (1 - num (eqb i k)) (f i))
+pub sum-but : (n k : ℕ) (f : ℕ → ℕ) → k < n → sumTo n f ≡ f k + sumTo n (λ i. given (not (eqb i k)) (f i))
 unfolding sumTo
 sum-but zero k f l = absurd (omega arith)
 sum-but (suc n) k f l = go (sum-but n k f) (below-cases l)
   where
     rest : ℕ → ℕ
-    rest i = given (1 - num (eqb i k)) (f i)
+    rest i = given (not (eqb i k)) (f i)
 
     other : (i : ℕ) → i ≢ k → rest i ≡ f i
-    other i d = rw (same-no i k d)
+    other i d = rw (ne-eqb i k d)
 
     go : (k < n → sumTo n f ≡ f k + sumTo n rest) → (k ≡ n) ⊎ (k < n) → sumTo n f + f n ≡ f k + (sumTo n rest + rest n)
     go r (inl e) =
@@ -216,7 +220,7 @@ sum-but (suc n) k f l = go (sum-but n k f) (below-cases l)
           arith,
           ap f e,
           sum-cong n rest f (λ i h. other i (λ q. let z : ⊥ = omega arith in z)),
-          ap (λ (b : ℕ). given (1 - b) (f n)) (same-yes n k (sym e)),
+          ap (λ (t : Bool). given (not t) (f n)) (eq-eqb n k (sym e)),
         )
     go r (inr h) = omega (arith, r h, other n (λ q. let z : ⊥ = omega arith in z))
 
@@ -241,19 +245,19 @@ sum-classes n m g h c inside most one =
     (sum-mono m (λ j. sumTo n (λ u. brings u j)) c (λ j l. sum-one n (λ u. brings u j) (c j) (λ u k. bound u j k (same-cases (g u) j)) (λ u v k k'. single u v j k k' (same-cases (g u) j) (same-cases (g v) j)))))
   where
     brings : ℕ → ℕ → ℕ
-    brings u j = given (num (eqb (g u) j)) (h u)
+    brings u j = given (eqb (g u) j) (h u)
 
     own : (u : ℕ) → g u < m → h u ≤ sumTo m (brings u)
-    own u l = le-trans (le-of-eq (sym (given-yes (num (eqb (g u) (g u))) (h u) (same-yes (g u) (g u) refl)))) (sum-at m (brings u) (g u) l)
+    own u l = le-trans (le-of-eq (sym (given-yes (eqb (g u) (g u)) (h u) (eq-eqb (g u) (g u) refl)))) (sum-at m (brings u) (g u) l)
 
     bound : (u j : ℕ) → u < n → (g u ≡ j) ⊎ (g u ≢ j) → brings u j ≤ c j
-    bound u j l (inl e) = le-trans (given-le (num (eqb (g u) j)) (h u)) (le-trans (most u l) (le-of-eq (ap c e)))
-    bound u j l (inr d) = rw (same-no (g u) j d) zero-le
+    bound u j l (inl e) = le-trans (given-le (eqb (g u) j) (h u)) (le-trans (most u l) (le-of-eq (ap c e)))
+    bound u j l (inr d) = rw (ne-eqb (g u) j d) zero-le
 
     single : (u v j : ℕ) → u < v → v < n → (g u ≡ j) ⊎ (g u ≢ j) → (g v ≡ j) ⊎ (g v ≢ j) → min (brings u j) (brings v j) ≡ 0
-    single u v j l k (inl e) (inl e') = omega (arith, one u v l k (e ∙ sym e'), given-le (num (eqb (g u) j)) (h u), given-le (num (eqb (g v) j)) (h v))
-    single u v j l k (inl e) (inr d) = omega (arith, given-no (num (eqb (g v) j)) (h v) (same-no (g v) j d))
-    single u v j l k (inr d) q = omega (arith, given-no (num (eqb (g u) j)) (h u) (same-no (g u) j d))
+    single u v j l k (inl e) (inl e') = omega (arith, one u v l k (e ∙ sym e'), given-le (eqb (g u) j) (h u), given-le (eqb (g v) j) (h v))
+    single u v j l k (inl e) (inr d) = omega (arith, given-no (eqb (g v) j) (h v) (ne-eqb (g v) j d))
+    single u v j l k (inr d) q = omega (arith, given-no (eqb (g u) j) (h u) (ne-eqb (g u) j d))
 
 -- ---- greatest values
 

@@ -11,10 +11,10 @@ abbrev pub num : Bool → ℕ
 num true = 1
 num false = 0
 
--- x where the bit is 1, and 0 where it is 0
-abbrev pub given : ℕ → ℕ → ℕ
-given zero x = 0
-given (suc b) x = x
+-- x where the test passes, and 0 where it fails
+abbrev pub given : Bool → ℕ → ℕ
+given true x = x
+given false x = 0
 
 -- whether every number below n passes
 unfoldable pub everyTo : ℕ → (ℕ → Bool) → Bool

@@ -55,7 +55,7 @@ unionTo (suc k) f = bitOr (unionTo k f) (f k)
 
 -- what the members of s below n have together, where i has the set f i
 unfoldable pub gathered : ℕ → ℕ → (ℕ → ℕ) → ℕ
-gathered n s f = unionTo n (λ i. given (bit s i) (f i))
+gathered n s f = unionTo n (λ i. given (member s i) (f i))
 
 -- ---- what a set tells
 
