@@ -1,8 +1,8 @@
 -- The laws of tests and ranges. Assumes nothing.
-use mathlib.Core.Path.{_≡_, refl, sym, ap, _∙_}
+use mathlib.Core.Path.{_≡_, refl, sym, ap, ap₂, _∙_}
 use mathlib.Core.Logic.{_⊎_, inl, inr, _≢_}
 use mathlib.Core.Bool.{Bool, true, false, not, _&&_, _||_, true≢false, false≢true}
-use mathlib.Core.List.{[], _∷_, _++_}
+use mathlib.Core.List.{List, [], _∷_, _++_}
 use Prim.Native.Nat.{ℕ, zero, suc, _+_, _-_, _≤_, _<_, zero-le, min, max}
 use native.Mathlib.Nat.{le-refl, le-trans, le-of-eq, eq-or-lt-of-le, le-max-left, le-max-right}
 use native.Mathlib.Numerals.{add-one}
@@ -284,22 +284,27 @@ max-cong (suc k) f g h = omega (arith, max-cong k f g (λ i l. h i (omega arith)
 
 -- ---- lists
 
-pub list-length : (n : ℕ) (f : ℕ → ℕ) → length (listTo n f) ≡ n
+pub list-length : {A : Type 0} (n : ℕ) (f : ℕ → A) → length (listTo n f) ≡ n
 unfolding listTo
 list-length zero f = refl
 list-length (suc k) f = length-append (listTo k f) (f k ∷ []) ∙ omega (arith, list-length k f)
 
-pub list-at : (n : ℕ) (f : ℕ → ℕ) (i : ℕ) → i < n → getD (listTo n f) i 0 ≡ f i
+pub list-at : {A : Type 0} (n : ℕ) (f : ℕ → A) (d : A) (i : ℕ) → i < n → getD (listTo n f) i d ≡ f i
 unfolding listTo
-list-at zero f i h = omega arith
-list-at (suc k) f i h = go (list-at k f i) (below-cases h)
+list-at zero f d i h = absurd (omega arith)
+list-at (suc k) f d i h = go (list-at k f d i) (below-cases h)
   where
-    go : (i < k → getD (listTo k f) i 0 ≡ f i) → (i ≡ k) ⊎ (i < k) → getD (listTo k f ++ (f k ∷ [])) i 0 ≡ f i
-    go r (inl e) = getD-at (listTo k f) (f k) [] 0 i (list-length k f ∙ sym e) ∙ ap f (sym e)
-    go r (inr l) = List·getD-append (listTo k f) (f k ∷ []) 0 i (rw list-length l) ∙ r l
+    go : (i < k → getD (listTo k f) i d ≡ f i) → (i ≡ k) ⊎ (i < k) → getD (listTo k f ++ (f k ∷ [])) i d ≡ f i
+    go r (inl e) = getD-at (listTo k f) (f k) [] d i (list-length k f ∙ sym e) ∙ ap f (sym e)
+    go r (inr l) = List·getD-append (listTo k f) (f k ∷ []) d i (rw list-length l) ∙ r l
 
-pub list-past : (n : ℕ) (f : ℕ → ℕ) (i : ℕ) → n ≤ i → getD (listTo n f) i 0 ≡ 0
-list-past n f i h = List·getD-eq-default (listTo n f) 0 (rw list-length h)
+pub list-past : {A : Type 0} (n : ℕ) (f : ℕ → A) (d : A) (i : ℕ) → n ≤ i → getD (listTo n f) i d ≡ d
+list-past n f d i h = List·getD-eq-default (listTo n f) d (rw list-length h)
+
+pub list-cong : {A : Type 0} (n : ℕ) (f g : ℕ → A) → ((i : ℕ) → i < n → f i ≡ g i) → listTo n f ≡ listTo n g
+unfolding listTo
+list-cong zero f g h = refl
+list-cong (suc k) f g h = ap₂ (λ (l : List _) (x : _). l ++ (x ∷ [])) (list-cong k f g (λ i l. h i (omega arith))) (h k (le-refl (suc k)))
 
 -- ---- one turn of a loop that counts up by `u + 1`
 
@@ -311,6 +316,6 @@ pub max-turn : (u : ℕ) (f : ℕ → ℕ) → maxTo (u + 1) f ≡ max (maxTo u 
 unfolding maxTo
 max-turn u f = rw add-one
 
-pub list-turn : (u : ℕ) (f : ℕ → ℕ) → listTo (u + 1) f ≡ listTo u f ++ (f u ∷ [])
+pub list-turn : {A : Type 0} (u : ℕ) (f : ℕ → A) → listTo (u + 1) f ≡ listTo u f ++ (f u ∷ [])
 unfolding listTo
 list-turn u f = rw add-one

@@ -39,6 +39,6 @@ maxTo zero f = 0
 maxTo (suc k) f = max (maxTo k f) (f k)
 
 -- the list f 0, f 1, .. f (n - 1)
-unfoldable pub listTo : ℕ → (ℕ → ℕ) → List ℕ
+unfoldable pub listTo : {A : Type 0} → ℕ → (ℕ → A) → List A
 listTo zero f = []
 listTo (suc k) f = listTo k f ++ (f k ∷ [])
