@@ -4,3 +4,4 @@ pub mod ItemLaws
 pub mod EntryLaws
 pub mod FileLaws
 pub mod Theorems
+pub mod StepLaws

@@ -8,3 +8,4 @@ pub mod Job
 pub mod Read
 pub mod Write
 pub mod Valid
+pub mod Answers

@@ -1,0 +1,98 @@
+-- What the answers of the code mean.
+use mathlib.Core.Path.{_≡_}
+use mathlib.Core.Bool.{Bool, true, false, cond}
+use mathlib.Core.List.{List, [], _∷_, map}
+use Prim.Native.Nat.{ℕ, _+_, _≤_, _<_}
+use lib.Dec.{ltb}
+use lib.ListN.{length, getD}
+use Rattle.sets.specs.Ranges.{listTo}
+use Rattle.jobfile.specs.declared.Reason.{Reason}
+use Rattle.jobfile.specs.declared.Reason.the-variants.{TrailingBytes}
+use Rattle.jobfile.specs.declared.Refusal.{Refusal}
+use Rattle.jobfile.specs.declared.Spot.{Spot}
+use Rattle.jobfile.specs.declared.item.Cursor.{Cursor}
+use Rattle.jobfile.specs.declared.item.Cursor.the-variants as Cursor
+use Rattle.jobfile.specs.declared.item.Item.{Item}
+use Rattle.jobfile.specs.declared.item.Named.{Named}
+use Rattle.jobfile.specs.declared.entry.Row.{Row}
+use Rattle.jobfile.specs.declared.entry.Rows.{Rows}
+use Rattle.jobfile.specs.Got.{Got, got, refused}
+use Rattle.jobfile.specs.Layout.{Layout, choice, fitting}
+use Rattle.jobfile.specs.Job.{Entry, Job}
+
+-- ---- where reading stands
+
+-- a value that was read, and where reading stands behind it
+abbrev pub gotBy : {A : Type 0} → A → Cursor → Got A
+gotBy value (Cursor.At at) = got value at
+gotBy value (Cursor.Refused r) = refused (r .reason) (r .place)
+
+-- a reader goes on from there
+abbrev pub readFrom : {A : Type 0} → Cursor → (ℕ → Got A) → Got A
+readFrom (Cursor.At at) reader = reader at
+readFrom (Cursor.Refused r) reader = refused (r .reason) (r .place)
+
+abbrev pub placeOf : Cursor → ℕ
+placeOf (Cursor.At at) = at
+placeOf (Cursor.Refused r) = 0
+
+abbrev pub stopped : Cursor → Reason → ℕ → Cursor
+stopped (Cursor.At at) reason place = Cursor.Refused (record { reason = reason; place = place })
+stopped (Cursor.Refused r) reason place = Cursor.Refused r
+
+-- reason 8, where the file has this length
+abbrev pub finished : ℕ → Cursor → Cursor
+finished end (Cursor.At at) = cond (ltb at end) (Cursor.Refused (record { reason = TrailingBytes; place = at })) (Cursor.At at)
+finished end (Cursor.Refused r) = Cursor.Refused r
+
+-- a file that was read up to its end
+abbrev pub ended : {A : Type 0} → A → ℕ → Cursor → Got A
+ended value end (Cursor.At at) = got value end
+ended value end (Cursor.Refused r) = refused (r .reason) (r .place)
+
+-- ---- items
+
+abbrev pub itemOf : Item → Got ℕ
+itemOf i = gotBy (i .value) (i .next)
+
+abbrev pub nameOf : Named → Got Spot
+nameOf n = gotBy (n .spot) (n .next)
+
+-- ---- records: of a fitting file, or of a choice file
+
+abbrev pub layoutBy : Bool → Layout
+layoutBy true = fitting
+layoutBy false = choice
+
+abbrev pub setsBy : Bool → ℕ → ℕ → ℕ → List ℕ
+setsBy true a b c = a ∷ b ∷ c ∷ []
+setsBy false a b c = a ∷ b ∷ []
+
+abbrev pub entryOf : Bool → Row → Got (Entry Spot)
+entryOf fit r = gotBy (record { sets = setsBy fit (r .first) (r .second) (r .third); name = r .spot }) (r .next)
+
+-- a record of a choice has no third set, and a name stands within its file
+abbrev pub Tidy : Bool → ℕ → ℕ → ℕ → ℕ → Type 0
+Tidy true size third start len = start + len ≤ size
+Tidy false size third start len = (third ≡ 0) × (start + len ≤ size)
+
+-- record i of the columns
+abbrev pub entryFrom : Bool → List ℕ → List ℕ → List ℕ → List ℕ → List ℕ → ℕ → Entry Spot
+entryFrom fit first second third starts lens i =
+    record { sets = setsBy fit (getD first i 0) (getD second i 0) (getD third i 0); name = record { start = getD starts i 0; len = getD lens i 0 } }
+
+abbrev pub rowsOf : Bool → ℕ → Rows → Got (List (Entry Spot))
+rowsOf fit n r = gotBy (listTo n (entryFrom fit (r .first) (r .second) (r .third) (r .starts) (r .lens))) (r .next)
+
+-- the columns have 64 elements, 0 from n on, a choice has no third set, and names stand within the file
+pub record Column (n : ℕ) (l : List ℕ) : Type 0 where
+  pub size : length l ≡ 64
+  pub past : (i : ℕ) → n ≤ i → getD l i 0 ≡ 0
+
+pub record Columns (fit : Bool) (n size : ℕ) (r : Rows) : Type 0 where
+  pub first : Column n (r .first)
+  pub second : Column n (r .second)
+  pub third : Column n (r .third)
+  pub starts : Column n (r .starts)
+  pub lens : Column n (r .lens)
+  pub tidy : (i : ℕ) → Tidy fit size (getD (r .third) i 0) (getD (r .starts) i 0) (getD (r .lens) i 0)
