@@ -5,3 +5,4 @@ pub mod EntryLaws
 pub mod FileLaws
 pub mod Theorems
 pub mod StepLaws
+pub mod RowLaws

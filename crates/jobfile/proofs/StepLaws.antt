@@ -9,7 +9,7 @@ use lib.Dec.{leb, ltb, eqb}
 use lib.ListN.{length, getD}
 use lib.Pow.{pow-pos}
 use borrow.Author.Tests.{leb-true, leb-false, le-leb, lt-leb, lt-ltb, le-ltb, ltb-false, eq-eqb, ne-eqb}
-use Rattle.sets.specs.Sets.{member}
+use Rattle.sets.specs.Sets.{bit, member}
 use Rattle.jobfile.specs.declared.Reason.{Reason}
 use Rattle.jobfile.specs.declared.Reason.the-variants.{WrongKind, EndsEarly, TrailingBytes}
 use Rattle.jobfile.specs.declared.Refusal.{Refusal}
@@ -135,6 +135,11 @@ from-absent a from item f marked e = rw e (sym (settled a from))
 
 pub from-marked : {A : Type 0} (a : A) (from : Cursor) (item : Reader A) (f : List ℕ) (marked : Bool) {x : Got A} → marked ≡ true → x ≡ readFrom from (item f) → x ≡ readFrom from (optional marked a item f)
 from-marked a from item f marked e h = rw e h
+
+-- a mark that the code tests by a bit
+pub marked-by : {A : Type 0} (from : Cursor) (a : A) (item : Reader A) (f : List ℕ) (m k : ℕ) {b : ℕ} {x : Got A} → b ≡ bit m k
+    → x ≡ readFrom from (optional (eqb b 1) a item f) → x ≡ readFrom from (optional (member m k) a item f)
+marked-by from a item f m k e h = h ∙ ap (λ (t : ℕ). readFrom from (optional (eqb t 1) a item f)) e
 
 module _ (f : List ℕ) (at bytes : ℕ) where
   pub number-short : length f < at + bytes → refused EndsEarly (length f) ≡ numberAt bytes f at

@@ -1,44 +1,52 @@
+-- `jobfile::entry::article` meets its contract: the definition's items, one behind the other, are those of the code.
 use borrow.Author.Needs.{needs}
+use mathlib.Core.Path.{refl}
+use mathlib.Core.List.{[], _∷_}
+use Rattle.jobfile.specs.Items.{fieldAt, nameAt, spots}
+use Rattle.jobfile.specs.Layout.{counted, own, choice}
+use Rattle.jobfile.proofs.StepLaws.{marked-by, sets-none, sets-more, entry-is}
 use Rattle.jobfile.proofs.entry.article.Statement.{statement}
 use Rattle.jobfile.proofs.entry.article.Tie as tie
-use Rattle.jobfile.proofs.entry.article.Reads as reads
-use Rattle.jobfile.proofs.entry.article.Lts as lts
-use Rattle.jobfile.proofs.item.bit_map.Reads as bit-map-reads
-use Rattle.jobfile.proofs.item.field.Reads as field-reads
-use Rattle.jobfile.proofs.item.name.Reads as name-reads
-use Rattle.sets.proofs.word.bit_at.Reads as bit-at-reads
 
--- src/entry.rt:29:9
 bit-map-requires : tie.Need-bit-map-requires
 bit-map-requires c κs = search needs
 
--- src/entry.rt:32:38
 bit-at-requires : tie.Need-bit-at-requires
 bit-at-requires c κs = search needs
 
--- src/entry.rt:32:9
 field-requires : tie.Need-field-requires
 field-requires c κs = search needs
 
--- src/entry.rt:34:39
 bit-at-requires-2 : tie.Need-bit-at-requires-2
 bit-at-requires-2 c κs = search needs
 
--- src/entry.rt:34:9
 field-requires-2 : tie.Need-field-requires-2
 field-requires-2 c κs = search needs
 
--- src/entry.rt:36:37
 bit-at-requires-3 : tie.Need-bit-at-requires-3
 bit-at-requires-3 c κs = search needs
 
--- src/entry.rt:36:9
 name-requires : tie.Need-name-requires
 name-requires c κs = search needs
 
--- src/entry.rt:25:1
 returns : tie.Need-returns
-returns c = ?
+unfolding choice
+returns c =
+    let a = c .before .before .before .before .before .before .before .before .before .args in
+    let f = a .file .now in
+    let map = c .before .before .before .before .before .before .before .bit-map in
+    let m = map .result .value in
+    let first = c .before .before .before .before .before .field in
+    let second = c .before .before .before .field2 in
+    let named = c .before .name in
+    (
+      entry-is spots choice f (a .wishes) (a .own) m (first .result .value ∷ second .result .value ∷ []) (named .result .spot) (map .result .next) (second .result .next) (named .result .next) (a .from) (map .ensures)
+      (sets-more f (a .wishes) (a .own) m (record { bytes = 8; bound = counted }) (record { bytes = 8; bound = own } ∷ []) 0 (first .result .value) (second .result .value ∷ []) (first .result .next) (second .result .next) (map .result .next) (marked-by (map .result .next) 0 (fieldAt 8 (a .wishes)) f m 0 (c .before .before .before .before .before .before .bit-at .ensures) (first .ensures))
+      (sets-more f (a .wishes) (a .own) m (record { bytes = 8; bound = own }) [] 1 (second .result .value) ([]) (second .result .next) (second .result .next) (first .result .next) (marked-by (first .result .next) 0 (fieldAt 8 (a .own)) f m 1 (c .before .before .before .before .bit-at2 .ensures) (second .ensures))
+      (sets-none f (a .wishes) (a .own) m 2 (second .result .next))))
+      (marked-by (second .result .next) (spots .absent) (nameAt spots 32) f m 2 (c .before .before .bit-at3 .ensures) (named .ensures .0)),
+      (refl, named .ensures .1),
+    )
 
 pub article-spec : {M : Type 1} → statement M
 article-spec =

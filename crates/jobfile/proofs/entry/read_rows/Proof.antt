@@ -1,80 +1,71 @@
+use borrow.Author.Needs.{needs}
+-- `jobfile::entry::read_rows` meets its contract. The invariant, `Filled`: the records read stand in the columns, and what is left is read from the cursor on.
+-- The measure is how many records are left.
+use Prim.Native.Nat.{_-_}
+use Rattle.jobfile.proofs.RowLaws.{Filled, rows-start, rows-turn, rows-end}
 use Rattle.jobfile.proofs.entry.read_rows.Statement.{statement}
 use Rattle.jobfile.proofs.entry.read_rows.Tie as tie
-use Rattle.jobfile.proofs.entry.read_rows.Reads as reads
-use Rattle.jobfile.proofs.entry.read_rows.Lts as lts
-use Rattle.jobfile.proofs.entry.read_row.Reads as read-row-reads
 
 abbrev Inv-loop : tie.InvT-loop
-Inv-loop file fitting count n first₀ second₀ third₀ starts₀ lens₀ next₀ i₀ first second third starts lens next i =
-    ?
+Inv-loop file fitting count n first₀ second₀ third₀ starts₀ lens₀ next₀ i₀ first second third starts lens next i = Filled file fitting count n next₀ first second third starts lens next i
 
 abbrev μ-loop : tie.MeasureT-loop
-μ-loop file fitting count n first₀ second₀ third₀ starts₀ lens₀ next₀ i₀ first second third starts lens next i =
-    ?
+μ-loop file fitting count n first₀ second₀ third₀ starts₀ lens₀ next₀ i₀ first second third starts lens next i = n - i
 
--- src/entry.rt:108:5
 loop-holds : tie.Need-loop-holds Inv-loop μ-loop
-loop-holds c = ?
+loop-holds c = rows-start (c .before .args .file .now) (c .before .args .fitting) (c .before .args .count) (c .before .args .n) (c .before .args .from)
 
--- src/entry.rt:109:13
 read-row-requires : tie.Need-read-row-requires Inv-loop μ-loop
-read-row-requires c κs = ?
+read-row-requires c κs = search needs
 
--- src/entry.rt:111:9
 mul-first : tie.Need-mul-first Inv-loop μ-loop
-mul-first c = ?
+mul-first c = search needs
 
--- src/entry.rt:111:9
 array-write-first : tie.Need-array-write-first Inv-loop μ-loop
-array-write-first c = ?
+array-write-first c = search needs
 
--- src/entry.rt:112:9
 mul-second : tie.Need-mul-second Inv-loop μ-loop
-mul-second c = ?
+mul-second c = search needs
 
--- src/entry.rt:112:9
 array-write-second : tie.Need-array-write-second Inv-loop μ-loop
-array-write-second c = ?
+array-write-second c = search needs
 
--- src/entry.rt:113:9
 mul-third : tie.Need-mul-third Inv-loop μ-loop
-mul-third c = ?
+mul-third c = search needs
 
--- src/entry.rt:113:9
 array-write-third : tie.Need-array-write-third Inv-loop μ-loop
-array-write-third c = ?
+array-write-third c = search needs
 
--- src/entry.rt:114:9
 mul-starts : tie.Need-mul-starts Inv-loop μ-loop
-mul-starts c = ?
+mul-starts c = search needs
 
--- src/entry.rt:114:9
 array-write-starts : tie.Need-array-write-starts Inv-loop μ-loop
-array-write-starts c = ?
+array-write-starts c = search needs
 
--- src/entry.rt:115:9
 mul-lens : tie.Need-mul-lens Inv-loop μ-loop
-mul-lens c = ?
+mul-lens c = search needs
 
--- src/entry.rt:115:9
 array-write-lens : tie.Need-array-write-lens Inv-loop μ-loop
-array-write-lens c = ?
+array-write-lens c = search needs
 
--- src/entry.rt:117:9
 add-i : tie.Need-add-i Inv-loop μ-loop
-add-i c = ?
+add-i c = search needs
 
--- src/entry.rt:108:5
 loop-less : tie.Need-loop-less Inv-loop μ-loop
-loop-less c = ?
+loop-less c = search needs
 
--- src/entry.rt:108:5
 loop-again : tie.Need-loop-again Inv-loop μ-loop
-loop-again c = ?
+loop-again c =
+    let a = c .before .before .before .before .before .args in
+    let l = c .before .before .before .loop in
+    let f = a .file .now in
+    rows-turn f (a .fitting) (a .count) (a .n) (a .from) (l .first) (l .second) (l .third) (l .starts) (l .lens) (l .next) (l .i) (c .before .read-row .result) (l .inv) (c .before .before .loop-test .taken) (c .before .before .before .before .before .pre) (c .before .read-row .ensures .0) (c .before .read-row .ensures .1)
 
--- src/entry.rt:96:1
 returns : tie.Need-returns Inv-loop μ-loop
-returns c = ?
+returns c =
+    let a = c .before .before .before .args in
+    let l = c .before .loop in
+    rows-end (a .file .now) (a .fitting) (a .count) (a .n) (a .from) (record { first = l .first; second = l .second; third = l .third; starts = l .starts; lens = l .lens; next = l .next }) (l .i) (l .inv) (c .loop-test .left)
 
 pub read-rows-spec : {M : Type 1} → statement M
 read-rows-spec =

@@ -1,0 +1,173 @@
+-- Reading records one by one into columns: what a loop has read, in front of what is left to read. Assumes nothing.
+use mathlib.Core.Path.{_≡_, refl, ap, sym, _∙_, subst}
+use mathlib.Core.Logic.{_≢_}
+use mathlib.Core.Bool.{Bool, true, false}
+use mathlib.Core.List.{List, [], _∷_, _++_, append-assoc, append-nil}
+use Prim.Native.Nat.{ℕ, zero, suc, _+_, _-_, _≤_, _<_, zero-le}
+use native.Mathlib.Nat.{le-refl}
+use native.Mathlib.Decide.{decLt, ℕ-discrete}
+use native.Mathlib.Numerals.{add-one}
+use native.Mathlib.Omega.{arith}
+use lib.ListN.{length, getD, set, replicate, length-set, length-replicate, getD-replicate, List·getD-eq-default}
+use lib.Seq.{getD-set-same, getD-set-other}
+use Rattle.sets.specs.Ranges.{listTo}
+use Rattle.sets.proofs.Ranges.{list-cong, list-turn}
+use Rattle.jobfile.specs.declared.Spot.{Spot}
+use Rattle.jobfile.specs.declared.item.Cursor.{Cursor}
+use Rattle.jobfile.specs.declared.item.Cursor.the-variants as Cursor
+use Rattle.jobfile.specs.declared.entry.Row.{Row}
+use Rattle.jobfile.specs.declared.entry.Rows.{Rows}
+use Rattle.jobfile.specs.Got.{Got, got, refused, Reader, andThen, eachAt, upFrom}
+use Rattle.jobfile.specs.Items.{spots}
+use Rattle.jobfile.specs.Job.{Entry}
+use Rattle.jobfile.specs.Read.{entryAt}
+use Rattle.jobfile.specs.Answers.{gotBy, readFrom, layoutBy, setsBy, entryOf, entryFrom, Tidy, rowsOf, Column, Columns}
+use Rattle.jobfile.proofs.StepLaws.{and-assoc, settled, advance}
+
+-- ---- columns
+
+pub column-none : Column 0 (replicate {A = ℕ} 64 0)
+column-none = record { size = length-replicate {A = ℕ} 64 0; past = λ i l. go i (decLt i 64) }
+  where
+    go : (i : ℕ) → Dec (i < 64) → getD (replicate {A = ℕ} 64 0) i 0 ≡ 0
+    go i (yes h) = getD-replicate 64 i 0 0 h
+    go i (no h) = List·getD-eq-default (replicate {A = ℕ} 64 0) 0 {n = i} (omega (arith, length-replicate {A = ℕ} 64 0))
+
+pub column-set : (i : ℕ) (l : List ℕ) (v : ℕ) → Column i l → Column (i + 1) (set l i v)
+column-set i l v c = record { size = length-set l i v ∙ c .size; past = λ j h. getD-set-other l i j v 0 (λ e. let z : ⊥ = omega arith in z) ∙ c .past j (omega arith) }
+
+-- ---- what was read so far
+
+-- what is done, in front of what a reading gives
+abbrev pub after : {A : Type 0} → List A → Got (List A) → Got (List A)
+after done r = andThen r λ xs b. got (done ++ xs) b
+
+consed : {A : Type 0} (done : List A) (x : A) (r : Got (List A)) → after done (andThen r λ xs b. got (x ∷ xs) b) ≡ after (done ++ (x ∷ [])) r
+consed done x (refused reason place) = refl
+consed done x (got xs b) = ap (λ l. got l b) (sym (append-assoc done (x ∷ []) xs))
+
+same-from : {A : Type 0} (c : Cursor) (g h : ℕ → Got A) → ((n : ℕ) → g n ≡ h n) → readFrom c g ≡ readFrom c h
+same-from (Cursor.At n) g h e = e n
+same-from (Cursor.Refused r) g h e = refl
+
+module _ (f : List ℕ) (fit : Bool) (count n : ℕ) (from : Cursor) where
+  abbrev pub item : ℕ → Reader (Entry Spot)
+  item = entryAt spots (layoutBy fit) count
+
+  -- the records from i on, behind those that the columns hold
+  abbrev pub rest : ℕ → List (Entry Spot) → ℕ → Got (List (Entry Spot))
+  rest i done at = after done (eachAt item (upFrom (n - i) i) f at)
+
+  -- the loop's invariant, where it is about to read record i
+  pub record Filled (first second third starts lens : List ℕ) (next : Cursor) (i : ℕ) : Type 0 where
+    pub upto : i ≤ n
+    pub read : readFrom from (eachAt item (upFrom n 0) f) ≡ readFrom next (rest i (listTo i (entryFrom fit first second third starts lens)))
+    pub firsts : Column i first
+    pub seconds : Column i second
+    pub thirds : Column i third
+    pub starting : Column i starts
+    pub lengths : Column i lens
+    pub tidy : (j : ℕ) → Tidy fit (length f) (getD third j 0) (getD starts j 0) (getD lens j 0)
+
+  tidy-none : (size : ℕ) (b : Bool) → Tidy b size 0 0 0
+  tidy-none size true = zero-le
+  tidy-none size false = (refl, zero-le)
+
+  pub rows-start : let zeros = replicate {A = ℕ} 64 0 in Filled zeros zeros zeros zeros zeros from 0
+  unfolding listTo
+  rows-start = record {
+    upto = zero-le;
+    read = same-from from (eachAt item (upFrom n 0) f) (rest 0 []) (λ at. let e : n ≡ n - 0 = omega arith in ap (λ (k : ℕ). eachAt item (upFrom k 0) f at) e ∙ whole (eachAt item (upFrom (n - 0) 0) f at));
+    firsts = column-none;
+    seconds = column-none;
+    thirds = column-none;
+    starting = column-none;
+    lengths = column-none;
+    tidy = λ j. rw (column-none .past j zero-le) (tidy-none (length f) fit);
+  }
+    where
+      whole : (r : Got (List (Entry Spot))) → r ≡ after [] r
+      whole (refused reason place) = refl
+      whole (got xs b) = refl
+
+  pub rows-turn : (first second third starts lens : List ℕ) (next : Cursor) (i : ℕ) (r : Row) → Filled first second third starts lens next i → i < n → n ≤ 64
+      → entryOf fit r ≡ readFrom next (entryAt spots (layoutBy fit) count i f) → Tidy fit (length f) (r .third) (r .spot .start) (r .spot .len)
+      → Filled (set first i (r .first)) (set second i (r .second)) (set third i (r .third)) (set starts i (r .spot .start)) (set lens i (r .spot .len)) (r .next) (i + 1)
+  unfolding eachAt upFrom
+  rows-turn first second third starts lens next i r so l room e t = record {
+    upto = omega arith;
+    read = so .read ∙ advance y (r .next) next (item i f) _ (rest i old) e (λ at. split at) ∙ same-from (r .next) _ _ (λ at. consed old y (eachAt item (upFrom (n - (i + 1)) (suc i)) f at) ∙ onward at);
+    firsts = column-set i first (r .first) (so .firsts);
+    seconds = column-set i second (r .second) (so .seconds);
+    thirds = column-set i third (r .third) (so .thirds);
+    starting = column-set i starts (r .spot .start) (so .starting);
+    lengths = column-set i lens (r .spot .len) (so .lengths);
+    tidy = λ j. tidied j (ℕ-discrete j i);
+  }
+    where
+      old : List (Entry Spot)
+      old = listTo i (entryFrom fit first second third starts lens)
+
+      new : ℕ → Entry Spot
+      new = entryFrom fit (set first i (r .first)) (set second i (r .second)) (set third i (r .third)) (set starts i (r .spot .start)) (set lens i (r .spot .len))
+
+      y : Entry Spot
+      y = record { sets = setsBy fit (r .first) (r .second) (r .third); name = r .spot }
+
+      inside : (xs : List ℕ) → Column i xs → i < length xs
+      inside xs c = omega (arith, c .size)
+
+      here : new i ≡ y
+      here =
+          rw (
+            getD-set-same first i (r .first) 0 (inside first (so .firsts)),
+            getD-set-same second i (r .second) 0 (inside second (so .seconds)),
+            getD-set-same third i (r .third) 0 (inside third (so .thirds)),
+            getD-set-same starts i (r .spot .start) 0 (inside starts (so .starting)),
+            getD-set-same lens i (r .spot .len) 0 (inside lens (so .lengths)),
+          )
+
+      other : (j : ℕ) → j ≢ i → new j ≡ entryFrom fit first second third starts lens j
+      other j d =
+          rw (
+            getD-set-other first i j (r .first) 0 d,
+            getD-set-other second i j (r .second) 0 d,
+            getD-set-other third i j (r .third) 0 d,
+            getD-set-other starts i j (r .spot .start) 0 d,
+            getD-set-other lens i j (r .spot .len) 0 d,
+          )
+
+      grown : old ++ (y ∷ []) ≡ listTo (i + 1) new
+      grown =
+          sym (list-turn i new ∙ ap (λ (x : Entry Spot). listTo i new ++ (x ∷ [])) here
+          ∙ ap (λ (l : List (Entry Spot)). l ++ (y ∷ [])) (list-cong i new (entryFrom fit first second third starts lens) (λ j h. other j (λ q. let z : ⊥ = omega arith in z))))
+
+      split : (at : ℕ) → rest i old at ≡ andThen (item i f at) (λ x a. after old (andThen (eachAt item (upFrom (n - (i + 1)) (suc i)) f a) λ xs b. got (x ∷ xs) b))
+      split at =
+          let k : n - i ≡ suc (n - (i + 1)) = omega arith in
+          ap (λ (m : ℕ). after old (eachAt item (upFrom m i) f at)) k ∙ and-assoc (item i f at) _ _
+
+      onward : (at : ℕ) → after (old ++ (y ∷ [])) (eachAt item (upFrom (n - (i + 1)) (suc i)) f at) ≡ rest (i + 1) (listTo (i + 1) new) at
+      onward at = rw (grown, add-one i)
+
+      tidied : (j : ℕ) → Dec (j ≡ i) → Tidy fit (length f) (getD (set third i (r .third)) j 0) (getD (set starts i (r .spot .start)) j 0) (getD (set lens i (r .spot .len)) j 0)
+      tidied j (yes q) =
+          rw (
+            q,
+            getD-set-same third i (r .third) 0 (inside third (so .thirds)),
+            getD-set-same starts i (r .spot .start) 0 (inside starts (so .starting)),
+            getD-set-same lens i (r .spot .len) 0 (inside lens (so .lengths)),
+          ) t
+      tidied j (no d) =
+          rw (getD-set-other third i j (r .third) 0 d, getD-set-other starts i j (r .spot .start) 0 d, getD-set-other lens i j (r .spot .len) 0 d) (so .tidy j)
+
+  pub rows-end : (r : Rows) (i : ℕ) → Filled (r .first) (r .second) (r .third) (r .starts) (r .lens) (r .next) i → n ≤ i
+      → (rowsOf fit n r ≡ readFrom from (eachAt (entryAt spots (layoutBy fit) count) (upFrom n 0) f)) × Columns fit n (length f) r
+  unfolding eachAt upFrom
+  rows-end r i so h =
+      let e : i ≡ n = omega (arith, so .upto) in
+      let filled : Filled (r .first) (r .second) (r .third) (r .starts) (r .lens) (r .next) n = subst (λ (k : ℕ). Filled (r .first) (r .second) (r .third) (r .starts) (r .lens) (r .next) k) e so in
+      (
+        sym (filled .read ∙ same-from (r .next) _ (λ at. got (listTo n (entryFrom fit (r .first) (r .second) (r .third) (r .starts) (r .lens))) at) (λ at. let k : n - n ≡ 0 = omega arith in rw k (rw append-nil)) ∙ settled _ (r .next)),
+        record { first = filled .firsts; second = filled .seconds; third = filled .thirds; starts = filled .starting; lens = filled .lengths; tidy = filled .tidy },
+      )
