@@ -6,3 +6,4 @@ pub mod FileLaws
 pub mod Theorems
 pub mod StepLaws
 pub mod RowLaws
+pub mod ReadLaws

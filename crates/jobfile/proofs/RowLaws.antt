@@ -3,8 +3,7 @@ use mathlib.Core.Path.{_≡_, refl, ap, sym, _∙_, subst}
 use mathlib.Core.Logic.{_≢_}
 use mathlib.Core.Bool.{Bool, true, false}
 use mathlib.Core.List.{List, [], _∷_, _++_, append-assoc, append-nil}
-use Prim.Native.Nat.{ℕ, zero, suc, _+_, _-_, _≤_, _<_, zero-le}
-use native.Mathlib.Nat.{le-refl}
+use Prim.Native.Nat.{ℕ, suc, _+_, _-_, _≤_, _<_, zero-le}
 use native.Mathlib.Decide.{decLt, ℕ-discrete}
 use native.Mathlib.Numerals.{add-one}
 use native.Mathlib.Omega.{arith}
@@ -21,7 +20,7 @@ use Rattle.jobfile.specs.Got.{Got, got, refused, Reader, andThen, eachAt
 use Rattle.jobfile.specs.Items.{spots}
 use Rattle.jobfile.specs.Job.{Entry}
 use Rattle.jobfile.specs.Read.{entryAt}
-use Rattle.jobfile.specs.Answers.{gotBy, readFrom, layoutBy, setsBy, entryOf, entryFrom, Tidy, rowsOf, Column, Columns}
+use Rattle.jobfile.specs.Answers.{readFrom, layoutBy, setsBy, entryOf, entryFrom, Tidy, rowsOf, Column, Columns}
 use Rattle.jobfile.proofs.StepLaws.{and-assoc, settled, advance}
 
 -- ---- columns
@@ -166,8 +165,7 @@ module _ (f : List ℕ) (fit : Bool) (count n : ℕ) (from : Cursor) where
   unfolding eachAt upFrom
   rows-end r i so h =
       let e : i ≡ n = omega (arith, so .upto) in
-      let filled : Filled (r .first) (r .second) (r .third) (r .starts) (r .lens) (r .next) n = subst (λ (k : ℕ). Filled (r .first) (r .second) (r .third) (r .starts) (r .lens) (r .next) k) e so in
-      (
+      let filled : Filled (r .first) (r .second) (r .third) (r .starts) (r .lens) (r .next) n = subst (λ (k : ℕ). Filled (r .first) (r .second) (r .third) (r .starts) (r .lens) (r .next) k) e so in (
         sym (filled .read ∙ same-from (r .next) _ (λ at. got (listTo n (entryFrom fit (r .first) (r .second) (r .third) (r .starts) (r .lens))) at) (λ at. let k : n - n ≡ 0 = omega arith in rw k (rw append-nil)) ∙ settled _ (r .next)),
         record { first = filled .firsts; second = filled .seconds; third = filled .thirds; starts = filled .starting; lens = filled .lengths; tidy = filled .tidy },
       )

@@ -2,7 +2,7 @@
 use mathlib.Core.Path.{_≡_, refl, ap, ap₂, sym, _∙_}
 use mathlib.Core.Bool.{Bool, true, false, not, cond}
 use mathlib.Core.List.{List, [], _∷_}
-use Prim.Native.Nat.{ℕ, zero, suc, _+_, _-_, _*_, _/_, _^_, _≤_, _<_}
+use Prim.Native.Nat.{ℕ, suc, _+_, _-_, _*_, _/_, _^_, _≤_, _<_}
 use native.Mathlib.Nat.{le-div-iff-mul-le, one-mul, div-eq-of-lt, pow-suc, pow-le-pow-right}
 use native.Mathlib.Omega.{arith}
 use lib.Dec.{leb, ltb, eqb}
@@ -17,10 +17,9 @@ use Rattle.jobfile.specs.declared.Spot.{Spot}
 use Rattle.jobfile.specs.declared.item.Cursor.{Cursor}
 use Rattle.jobfile.specs.declared.item.Cursor.the-variants as Cursor
 use Rattle.jobfile.specs.declared.item.Item.{Item}
-use Rattle.jobfile.specs.declared.item.Named.{Named}
 use Rattle.jobfile.specs.Got.{Got, got, refused, Reader, refuse, andThen, checked, optional, eachAt, upFrom}
 use Rattle.jobfile.specs.Items.{Naming, kindAt, valueAt, numberAt, countAt, mapAt, setAt, fieldAt, lengthAt, nameAt, spots}
-use Rattle.jobfile.specs.Layout.{Count, SetField, Layout, layoutOf}
+use Rattle.jobfile.specs.Layout.{SetField, Layout, layoutOf}
 use Rattle.jobfile.specs.Job.{Entry, Job}
 use Rattle.jobfile.specs.Read.{below, setsAt, entryAt, bodyAt, read}
 use Rattle.jobfile.specs.Answers.{gotBy, readFrom, placeOf, stopped, finished, ended, itemOf}

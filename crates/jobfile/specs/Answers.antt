@@ -2,13 +2,12 @@
 use mathlib.Core.Path.{_≡_}
 use mathlib.Core.Bool.{Bool, true, false, cond}
 use mathlib.Core.List.{List, [], _∷_, map}
-use Prim.Native.Nat.{ℕ, _+_, _≤_, _<_}
+use Prim.Native.Nat.{ℕ, _+_, _≤_}
 use lib.Dec.{ltb}
 use lib.ListN.{length, getD}
 use Rattle.sets.specs.Ranges.{listTo}
 use Rattle.jobfile.specs.declared.Reason.{Reason}
 use Rattle.jobfile.specs.declared.Reason.the-variants.{TrailingBytes}
-use Rattle.jobfile.specs.declared.Refusal.{Refusal}
 use Rattle.jobfile.specs.declared.Spot.{Spot}
 use Rattle.jobfile.specs.declared.item.Cursor.{Cursor}
 use Rattle.jobfile.specs.declared.item.Cursor.the-variants as Cursor
@@ -18,7 +17,13 @@ use Rattle.jobfile.specs.declared.entry.Row.{Row}
 use Rattle.jobfile.specs.declared.entry.Rows.{Rows}
 use Rattle.jobfile.specs.Got.{Got, got, refused}
 use Rattle.jobfile.specs.Layout.{Layout, choice, fitting}
-use Rattle.jobfile.specs.Job.{Entry, Job}
+use Rattle.jobfile.specs.declared.Verdict.{Verdict}
+use Rattle.jobfile.specs.declared.Verdict.the-variants as Verdict
+use Rattle.jobfile.specs.declared.ReadChoice.{ReadChoice}
+use Rattle.jobfile.specs.declared.ReadFitting.{ReadFitting}
+use Rattle.jobfile.specs.Items.{spots}
+use Rattle.jobfile.specs.Read.{read, choices, fittings}
+use Rattle.jobfile.specs.Job.{Entry, Job, namesOf, size, wishCount, order, wishes, clashes, factCount, horizon, start, goal, needs, gives, takes}
 
 -- ---- where reading stands
 
@@ -96,3 +101,87 @@ pub record Columns (fit : Bool) (n size : ℕ) (r : Rows) : Type 0 where
   pub starts : Column n (r .starts)
   pub lens : Column n (r .lens)
   pub tidy : (i : ℕ) → Tidy fit size (getD (r .third) i 0) (getD (r .starts) i 0) (getD (r .lens) i 0)
+
+-- ---- files
+
+-- a list in an array of this size, with 0 behind its end
+abbrev pub padded : ℕ → List ℕ → List ℕ
+padded size l = listTo size (λ i. getD l i 0)
+
+abbrev pub startsOf : List (Entry Spot) → List ℕ
+startsOf entries = map (λ e. e .name .start) entries
+
+abbrev pub lensOf : List (Entry Spot) → List ℕ
+lensOf entries = map (λ e. e .name .len) entries
+
+-- a choice file as read: the job that it states, with the spots of its names, or the refusal and nothing else
+abbrev pub choiceOf : Got (Job Spot) → ReadChoice
+choiceOf (refused reason place) = record {
+  verdict = Verdict.Refused (record { reason = reason; place = place });
+  articles = 0;
+  «wish_count» = 0;
+  order = 0;
+  wishes = padded 64 [];
+  clashes = padded 64 [];
+  starts = padded 64 [];
+  lens = padded 64 [];
+}
+choiceOf (got job end) = record {
+  verdict = Verdict.Accepted;
+  articles = size job;
+  «wish_count» = wishCount job;
+  order = order job;
+  wishes = padded 64 (wishes job);
+  clashes = padded 64 (clashes job);
+  starts = padded 64 (startsOf (job .entries));
+  lens = padded 64 (lensOf (job .entries));
+}
+
+abbrev pub fittingOf : Got (Job Spot) → ReadFitting
+fittingOf (refused reason place) = record {
+  verdict = Verdict.Refused (record { reason = reason; place = place });
+  steps = 0;
+  facts = 0;
+  horizon = 0;
+  start = 0;
+  goal = 0;
+  needs = padded 64 [];
+  gives = padded 64 [];
+  takes = padded 64 [];
+  starts = padded 64 [];
+  lens = padded 64 [];
+}
+fittingOf (got job end) = record {
+  verdict = Verdict.Accepted;
+  steps = size job;
+  facts = factCount job;
+  horizon = horizon job;
+  start = start job;
+  goal = goal job;
+  needs = padded 64 (needs job);
+  gives = padded 64 (gives job);
+  takes = padded 64 (takes job);
+  starts = padded 64 (startsOf (job .entries));
+  lens = padded 64 (lensOf (job .entries));
+}
+
+-- at most so many records
+abbrev pub Few : ℕ → Got (Job Spot) → Type 0
+Few limit (refused reason place) = Unit {0}
+Few limit (got job end) = length (job .entries) ≤ limit
+
+-- every name stands within a file of this length
+abbrev pub Within : ℕ → List ℕ → List ℕ → Type 0
+Within end starts lens = (i : ℕ) → getD starts i 0 + getD lens i 0 ≤ end
+
+-- where the name of record i stands: nowhere for a refused file, an absent number or no name
+abbrev pub spotIn : Got (Job Spot) → ℕ → Spot
+spotIn (refused reason place) i = record { start = 0; len = 0 }
+spotIn (got job end) i = getD (namesOf (job .entries)) i (record { start = 0; len = 0 })
+
+-- what a reader keeps to beside its equation: the limits, and names within the file
+abbrev pub ChoiceBounds : List ℕ → ReadChoice → Type 0
+ChoiceBounds f r = (r .articles ≤ 64) × (r .«wish_count» ≤ 64) × Within (length f) (r .starts) (r .lens) × Few 64 (read spots choices f)
+
+abbrev pub FittingBounds : List ℕ → ReadFitting → Type 0
+FittingBounds f r = (r .steps ≤ 32) × (r .facts ≤ 32) × (r .horizon ≤ 16) × Within (length f) (r .starts) (r .lens) × Few 32 (read spots fittings f)

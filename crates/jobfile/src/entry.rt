@@ -1,8 +1,8 @@
 // The records of a job file. Both kinds of records are read into one shape, and one loop reads all.
 ghost use mathlib.Core.Path.{_≡_};
 ghost use mathlib.Core.Bool.{true, false};
-ghost use Prim.Native.Nat.{ℕ, _+_, _≤_};
-ghost use lib.ListN.{length, getD};
+ghost use Prim.Native.Nat.{_+_, _≤_};
+ghost use lib.ListN.{length};
 ghost use Rattle.jobfile.specs.Got.{eachAt, upFrom};
 ghost use Rattle.jobfile.specs.Items.{spots};
 ghost use Rattle.jobfile.specs.Read.{entryAt};

@@ -2,13 +2,15 @@
 //
 // The formats stand in specs/Layout.antt, as tables, and what reading gives in specs/Read.antt.
 ghost use mathlib.Core.Path.{_≡_};
-ghost use Prim.Native.Nat.{ℕ, _+_, _≤_};
-ghost use lib.ListN.{length, getD};
 ghost use Rattle.jobfile.specs.Reasons.{numberOf};
 ghost use Rattle.jobfile.specs.Items.{spots};
-ghost use Rattle.jobfile.specs.Read.{read, choices, fittings, either};
+ghost use Rattle.jobfile.specs.Read.{read, choices, fittings};
 
 pub mod entry;
+
+ghost use Rattle.jobfile.specs.Got.{refused};
+ghost use Rattle.jobfile.specs.Answers.{choiceOf, fittingOf, ChoiceBounds, FittingBounds};
+
 pub mod item;
 
 use crate::item::Cursor;
@@ -101,4 +103,123 @@ pub struct ReadFitting {
     pub takes: [u64; 64],
     pub starts: [usize; 64],
     pub lens: [usize; 64],
+}
+
+// A choice file that is refused.
+fn no_choice(refusal: Refusal) -> ReadChoice
+    ensures { λ r. ⌜ r ≡ choiceOf (refused (refusal .reason) (refusal .place)) ⌝ }
+{
+    ReadChoice {
+        verdict: Verdict::Refused(refusal),
+        articles: 0,
+        wish_count: 0,
+        order: 0,
+        wishes: [0; 64],
+        clashes: [0; 64],
+        starts: [0; 64],
+        lens: [0; 64],
+    }
+}
+
+// A fitting file that is refused.
+fn no_fitting(refusal: Refusal) -> ReadFitting
+    ensures { λ r. ⌜ r ≡ fittingOf (refused (refusal .reason) (refusal .place)) ⌝ }
+{
+    ReadFitting {
+        verdict: Verdict::Refused(refusal),
+        steps: 0,
+        facts: 0,
+        horizon: 0,
+        start: 0,
+        goal: 0,
+        needs: [0; 64],
+        gives: [0; 64],
+        takes: [0; 64],
+        starts: [0; 64],
+        lens: [0; 64],
+    }
+}
+
+// Reads a choice file. The names stand within it, and the counts keep to their limits.
+pub fn read_choice(file: &[u8]) -> ReadChoice
+    ensures { λ r. ⌜ r ≡ choiceOf (read spots choices (now (file .entry))) ⌝ }
+    ensures { λ r. ⌜ ChoiceBounds (now (file .entry)) r ⌝ }
+{
+    let a = item::kind(file, 67);
+    let articles = item::count(file, a, 64);
+    let b = articles.next;
+    let counted = item::count(file, b, 64);
+    let c = counted.next;
+    let n = articles.value as usize;
+    let w = counted.value as usize;
+    let order = item::set(file, c, 8, w);
+    let d = order.next;
+    let rows = entry::read_rows(file, d, false, w, n);
+    let e = rows.next;
+    let end = item::finish(file, e);
+    match end {
+        Cursor::Refused(refusal) => no_choice(refusal),
+        Cursor::At(_) => {
+            let wishes = rows.first;
+            let clashes = rows.second;
+            let starts = rows.starts;
+            let lens = rows.lens;
+            ReadChoice {
+                verdict: Verdict::Accepted,
+                articles: n,
+                wish_count: w,
+                order: order.value,
+                wishes,
+                clashes,
+                starts,
+                lens,
+            }
+        }
+    }
+}
+
+// Reads a fitting file, likewise.
+pub fn read_fitting(file: &[u8]) -> ReadFitting
+    ensures { λ r. ⌜ r ≡ fittingOf (read spots fittings (now (file .entry))) ⌝ }
+    ensures { λ r. ⌜ FittingBounds (now (file .entry)) r ⌝ }
+{
+    let a = item::kind(file, 70);
+    let steps = item::count(file, a, 32);
+    let b = steps.next;
+    let counted = item::count(file, b, 32);
+    let c = counted.next;
+    let rounds = item::count(file, c, 16);
+    let d = rounds.next;
+    let n = steps.value as usize;
+    let facts = counted.value as usize;
+    let start = item::set(file, d, 4, facts);
+    let e = start.next;
+    let goal = item::set(file, e, 4, facts);
+    let f = goal.next;
+    let rows = entry::read_rows(file, f, true, facts, n);
+    let g = rows.next;
+    let end = item::finish(file, g);
+    match end {
+        Cursor::Refused(refusal) => no_fitting(refusal),
+        Cursor::At(_) => {
+            let needs = rows.first;
+            let gives = rows.second;
+            let takes = rows.third;
+            let starts = rows.starts;
+            let lens = rows.lens;
+            ReadFitting {
+                verdict: Verdict::Accepted,
+                steps: n,
+                facts,
+                horizon: rounds.value as usize,
+                start: start.value,
+                goal: goal.value,
+                needs,
+                gives,
+                takes,
+                starts,
+                lens,
+            }
+        }
+    }
 }

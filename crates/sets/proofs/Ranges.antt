@@ -2,7 +2,7 @@
 use mathlib.Core.Path.{_≡_, refl, sym, ap, ap₂, _∙_}
 use mathlib.Core.Logic.{_⊎_, inl, inr, _≢_}
 use mathlib.Core.Bool.{Bool, true, false, not, _&&_, _||_, true≢false, false≢true}
-use mathlib.Core.List.{List, [], _∷_, _++_}
+use mathlib.Core.List.{List, [], _∷_, _++_, map, map-append}
 use Prim.Native.Nat.{ℕ, zero, suc, _+_, _-_, _≤_, _<_, zero-le, min, max}
 use native.Mathlib.Nat.{le-refl, le-trans, le-of-eq, eq-or-lt-of-le, le-max-left, le-max-right}
 use native.Mathlib.Numerals.{add-one}
@@ -305,6 +305,11 @@ pub list-cong : {A : Type 0} (n : ℕ) (f g : ℕ → A) → ((i : ℕ) → i < 
 unfolding listTo
 list-cong zero f g h = refl
 list-cong (suc k) f g h = ap₂ (λ (l : List _) (x : _). l ++ (x ∷ [])) (list-cong k f g (λ i l. h i (omega arith))) (h k (le-refl (suc k)))
+
+pub list-map : {A B : Type 0} (n : ℕ) (f : ℕ → A) (h : A → B) → map h (listTo n f) ≡ listTo n (λ i. h (f i))
+unfolding listTo
+list-map zero f h = refl
+list-map (suc k) f h = map-append h (listTo k f) (f k ∷ []) ∙ ap (λ (l : List _). l ++ (h (f k) ∷ [])) (list-map k f h)
 
 -- ---- one turn of a loop that counts up by `u + 1`
 

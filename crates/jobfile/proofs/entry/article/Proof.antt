@@ -38,13 +38,12 @@ returns c =
     let m = map .result .value in
     let first = c .before .before .before .before .before .field in
     let second = c .before .before .before .field2 in
-    let named = c .before .name in
-    (
+    let named = c .before .name in (
       entry-is spots choice f (a .wishes) (a .own) m (first .result .value ∷ second .result .value ∷ []) (named .result .spot) (map .result .next) (second .result .next) (named .result .next) (a .from) (map .ensures)
-      (sets-more f (a .wishes) (a .own) m (record { bytes = 8; bound = counted }) (record { bytes = 8; bound = own } ∷ []) 0 (first .result .value) (second .result .value ∷ []) (first .result .next) (second .result .next) (map .result .next) (marked-by (map .result .next) 0 (fieldAt 8 (a .wishes)) f m 0 (c .before .before .before .before .before .before .bit-at .ensures) (first .ensures))
-      (sets-more f (a .wishes) (a .own) m (record { bytes = 8; bound = own }) [] 1 (second .result .value) ([]) (second .result .next) (second .result .next) (first .result .next) (marked-by (first .result .next) 0 (fieldAt 8 (a .own)) f m 1 (c .before .before .before .before .bit-at2 .ensures) (second .ensures))
-      (sets-none f (a .wishes) (a .own) m 2 (second .result .next))))
-      (marked-by (second .result .next) (spots .absent) (nameAt spots 32) f m 2 (c .before .before .bit-at3 .ensures) (named .ensures .0)),
+          (sets-more f (a .wishes) (a .own) m (record { bytes = 8; bound = counted }) (record { bytes = 8; bound = own } ∷ []) 0 (first .result .value) (second .result .value ∷ []) (first .result .next) (second .result .next) (map .result .next) (marked-by (map .result .next) 0 (fieldAt 8 (a .wishes)) f m 0 (c .before .before .before .before .before .before .bit-at .ensures) (first .ensures))
+          (sets-more f (a .wishes) (a .own) m (record { bytes = 8; bound = own }) [] 1 (second .result .value) ([]) (second .result .next) (second .result .next) (first .result .next) (marked-by (first .result .next) 0 (fieldAt 8 (a .own)) f m 1 (c .before .before .before .before .bit-at2 .ensures) (second .ensures))
+          (sets-none f (a .wishes) (a .own) m 2 (second .result .next))))
+          (marked-by (second .result .next) (spots .absent) (nameAt spots 32) f m 2 (c .before .before .bit-at3 .ensures) (named .ensures .0)),
       (refl, named .ensures .1),
     )
 

@@ -44,14 +44,13 @@ returns c =
     let first = c .before .before .before .before .before .before .before .field in
     let second = c .before .before .before .before .before .field2 in
     let third = c .before .before .before .field3 in
-    let named = c .before .name in
-    (
+    let named = c .before .name in (
       entry-is spots fitting f (a .facts) (a .own) m (first .result .value ∷ second .result .value ∷ third .result .value ∷ []) (named .result .spot) (map .result .next) (third .result .next) (named .result .next) (a .from) (map .ensures)
-      (sets-more f (a .facts) (a .own) m (record { bytes = 4; bound = counted }) (record { bytes = 4; bound = counted } ∷ record { bytes = 4; bound = counted } ∷ []) 0 (first .result .value) (second .result .value ∷ third .result .value ∷ []) (first .result .next) (third .result .next) (map .result .next) (marked-by (map .result .next) 0 (fieldAt 4 (a .facts)) f m 0 (c .before .before .before .before .before .before .before .before .bit-at .ensures) (first .ensures))
-      (sets-more f (a .facts) (a .own) m (record { bytes = 4; bound = counted }) (record { bytes = 4; bound = counted } ∷ []) 1 (second .result .value) (third .result .value ∷ []) (second .result .next) (third .result .next) (first .result .next) (marked-by (first .result .next) 0 (fieldAt 4 (a .facts)) f m 1 (c .before .before .before .before .before .before .bit-at2 .ensures) (second .ensures))
-      (sets-more f (a .facts) (a .own) m (record { bytes = 4; bound = counted }) [] 2 (third .result .value) ([]) (third .result .next) (third .result .next) (second .result .next) (marked-by (second .result .next) 0 (fieldAt 4 (a .facts)) f m 2 (c .before .before .before .before .bit-at3 .ensures) (third .ensures))
-      (sets-none f (a .facts) (a .own) m 3 (third .result .next)))))
-      (marked-by (third .result .next) (spots .absent) (nameAt spots 32) f m 3 (c .before .before .bit-at4 .ensures) (named .ensures .0)),
+          (sets-more f (a .facts) (a .own) m (record { bytes = 4; bound = counted }) (record { bytes = 4; bound = counted } ∷ record { bytes = 4; bound = counted } ∷ []) 0 (first .result .value) (second .result .value ∷ third .result .value ∷ []) (first .result .next) (third .result .next) (map .result .next) (marked-by (map .result .next) 0 (fieldAt 4 (a .facts)) f m 0 (c .before .before .before .before .before .before .before .before .bit-at .ensures) (first .ensures))
+          (sets-more f (a .facts) (a .own) m (record { bytes = 4; bound = counted }) (record { bytes = 4; bound = counted } ∷ []) 1 (second .result .value) (third .result .value ∷ []) (second .result .next) (third .result .next) (first .result .next) (marked-by (first .result .next) 0 (fieldAt 4 (a .facts)) f m 1 (c .before .before .before .before .before .before .bit-at2 .ensures) (second .ensures))
+          (sets-more f (a .facts) (a .own) m (record { bytes = 4; bound = counted }) [] 2 (third .result .value) ([]) (third .result .next) (third .result .next) (second .result .next) (marked-by (second .result .next) 0 (fieldAt 4 (a .facts)) f m 2 (c .before .before .before .before .bit-at3 .ensures) (third .ensures))
+          (sets-none f (a .facts) (a .own) m 3 (third .result .next)))))
+          (marked-by (third .result .next) (spots .absent) (nameAt spots 32) f m 3 (c .before .before .bit-at4 .ensures) (named .ensures .0)),
       named .ensures .1,
     )
 

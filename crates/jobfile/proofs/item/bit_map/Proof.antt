@@ -1,6 +1,5 @@
 -- `jobfile::item::bit_map` meets its contract.
 use borrow.Author.Needs.{needs}
-use mathlib.Core.Path.{_≡_}
 use Prim.Native.Nat.{_^_}
 use lib.Dec.{leb}
 use Rattle.jobfile.specs.declared.Reason.the-variants.{ForbiddenBit}

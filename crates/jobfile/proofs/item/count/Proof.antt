@@ -1,9 +1,6 @@
 use borrow.Author.Needs.{needs}
-use mathlib.Core.Path.{_≡_, refl, ap, _∙_}
-use mathlib.Core.Bool.{Bool, true, false, cond}
-use Prim.Native.Nat.{ℕ, _≤_, zero-le}
+use mathlib.Core.Path.{refl}
 use lib.Dec.{ltb}
-use borrow.Author.Tests.{ltb-false}
 use Rattle.jobfile.specs.declared.Reason.the-variants.{OverLimit}
 use Rattle.jobfile.specs.Items.{countAt, numberAt}
 use Rattle.jobfile.proofs.StepLaws.{tested-is, count-limit}
@@ -25,8 +22,7 @@ returns : tie.Need-returns
 unfolding countAt
 returns c =
     let a = c .before .before .before .before .args in
-    let item = c .before .before .number in
-    (
+    let item = c .before .before .number in (
       tested-is (a .from) (item .result) (c .tested .result) (ltb (a .limit)) OverLimit (numberAt 1) (a .file .now) (ltb (a .limit) (item .result .value)) (c .before .place .result) (item .ensures) refl (c .before .place .ensures) (c .tested .ensures .0),
       count-limit (a .limit) (item .result .value) (c .tested .ensures .1),
     )

@@ -1,7 +1,7 @@
 -- `jobfile::item::field` meets its contract.
 use borrow.Author.Needs.{needs}
-use mathlib.Core.Path.{_≡_, refl}
-use Prim.Native.Nat.{ℕ, _^_}
+use mathlib.Core.Path.{refl}
+use Prim.Native.Nat.{_^_}
 use lib.Dec.{leb, eqb}
 use borrow.Author.Tests.{not-true, not-false}
 use Rattle.jobfile.specs.declared.Reason.the-variants.{EmptyField, AbsentMember}

@@ -2,9 +2,7 @@ use borrow.Author.Needs.{needs}
 use mathlib.Core.Path.{sym, ap, _∙_}
 use lib.ListN.{length}
 use borrow.Author.Tests.{lt-ltb, le-ltb}
-use Rattle.jobfile.specs.declared.item.Cursor.{Cursor}
-use Rattle.jobfile.specs.declared.Reason.the-variants.{TrailingBytes}
-use Rattle.jobfile.specs.Answers.{stopped, finished}
+use Rattle.jobfile.specs.Answers.{finished}
 use Rattle.jobfile.proofs.item.finish.Statement.{statement}
 use Rattle.jobfile.proofs.item.finish.Tie as tie
 

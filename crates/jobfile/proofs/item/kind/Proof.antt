@@ -1,7 +1,6 @@
 -- `jobfile::item::kind` meets its contract.
 use borrow.Author.Needs.{needs}
 use mathlib.Core.Path.{ap, _∙_}
-use Rattle.jobfile.specs.declared.item.Cursor.{Cursor}
 use Rattle.jobfile.specs.Answers.{gotBy}
 use Rattle.jobfile.proofs.StepLaws.{kind-none, kind-found, kind-other}
 use Rattle.jobfile.proofs.item.kind.Statement.{statement}

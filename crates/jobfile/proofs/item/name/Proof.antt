@@ -1,12 +1,10 @@
 -- `jobfile::item::name` meets its contract.
 use borrow.Author.Needs.{needs}
-use mathlib.Core.Path.{_≡_, ap, _∙_}
+use mathlib.Core.Path.{ap, _∙_}
 use Prim.Native.Nat.{_+_, _≤_}
 use native.Mathlib.Omega.{arith}
 use lib.ListN.{length}
 use borrow.Author.Tests.{not-true, not-false}
-use Rattle.jobfile.specs.declared.Spot.{Spot}
-use Rattle.jobfile.specs.declared.item.Cursor.{Cursor}
 use Rattle.jobfile.specs.Items.{nameAt, spots}
 use Rattle.jobfile.specs.Answers.{gotBy}
 use Rattle.jobfile.proofs.StepLaws.{from-absent, from-marked, name-refused, name-short, name-found}
@@ -30,10 +28,9 @@ enum-told c = search needs
 returns-2 : tie.Need-returns-2
 returns-2 c =
     let a = c .before .before .before .before .before .args in
-    let item = c .before .before .name-length in
-    (
+    let item = c .before .before .name-length in (
       from-marked (spots .absent) (a .from) (nameAt spots (a .limit)) (a .file .now) (a .marked) (not-false (a .marked) (c .before .before .before .if1 .left))
-      (name-refused (a .limit) (a .file .now) (a .from) (item .result) (item .ensures) (c .enum-told .given .1)),
+          (name-refused (a .limit) (a .file .now) (a .from) (item .result) (item .ensures) (c .enum-told .given .1)),
       omega arith,
     )
 
@@ -44,10 +41,9 @@ returns-3 : tie.Need-returns-3
 returns-3 c =
     let a = c .before .before .before .before .before .before .before .before .args in
     let item = c .before .before .before .before .before .name-length in
-    let s = c .before .before .before .next .given in
-    (
+    let s = c .before .before .before .next .given in (
       from-marked (spots .absent) (a .from) (nameAt spots (a .limit)) (a .file .now) (a .marked) (not-false (a .marked) (c .before .before .before .before .before .before .if1 .left))
-      (ap (gotBy (spots .absent)) (c .stop .ensures) ∙ name-short (a .limit) (a .file .now) (a .from) (item .result) (item .ensures) (s .1) (omega (arith, c .before .if2 .taken))),
+          (ap (gotBy (spots .absent)) (c .stop .ensures) ∙ name-short (a .limit) (a .file .now) (a .from) (item .result) (item .ensures) (s .1) (omega (arith, c .before .if2 .taken))),
       omega arith,
     )
 
@@ -58,10 +54,9 @@ returns-4 : tie.Need-returns-4
 returns-4 c =
     let a = c .before .before .before .before .before .before .before .before .before .args in
     let item = c .before .before .before .before .before .before .name-length in
-    let s = c .before .before .before .before .next .given in
-    (
+    let s = c .before .before .before .before .next .given in (
       from-marked (spots .absent) (a .from) (nameAt spots (a .limit)) (a .file .now) (a .marked) (not-false (a .marked) (c .before .before .before .before .before .before .before .if1 .left))
-      (ap (gotBy (spots .absent)) (c .stop2 .ensures) ∙ name-short (a .limit) (a .file .now) (a .from) (item .result) (item .ensures) (s .1) (omega (arith, c .before .if3 .taken))),
+          (ap (gotBy (spots .absent)) (c .stop2 .ensures) ∙ name-short (a .limit) (a .file .now) (a .from) (item .result) (item .ensures) (s .1) (omega (arith, c .before .if3 .taken))),
       omega arith,
     )
 
@@ -73,10 +68,9 @@ returns-5 c =
     let a = c .before .before .before .before .before .before .before .before .args in
     let item = c .before .before .before .before .before .name-length in
     let s = c .before .before .before .next .given in
-    let fits : s .0 .0 + item .result .value ≤ length (a .file .now) = omega (arith, c .before .if2 .left, c .if3 .left) in
-    (
+    let fits : s .0 .0 + item .result .value ≤ length (a .file .now) = omega (arith, c .before .if2 .left, c .if3 .left) in (
       from-marked (spots .absent) (a .from) (nameAt spots (a .limit)) (a .file .now) (a .marked) (not-false (a .marked) (c .before .before .before .before .before .before .if1 .left))
-      (name-found (a .limit) (a .file .now) (a .from) (item .result) (item .ensures) (s .1) fits),
+          (name-found (a .limit) (a .file .now) (a .from) (item .result) (item .ensures) (s .1) fits),
       fits,
     )
 

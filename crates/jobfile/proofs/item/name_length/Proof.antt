@@ -1,7 +1,6 @@
 -- `jobfile::item::name_length` meets its contract.
 use borrow.Author.Needs.{needs}
-use mathlib.Core.Path.{_≡_, refl}
-use Prim.Native.Nat.{ℕ}
+use mathlib.Core.Path.{refl}
 use lib.Dec.{ltb, eqb}
 use Rattle.jobfile.specs.declared.Reason.the-variants.{EmptyField, LongName}
 use Rattle.jobfile.specs.Got.{checked}

@@ -2,11 +2,9 @@
 use borrow.Author.Needs.{needs}
 use mathlib.Core.Path.{ap, _∙_}
 use native.Mathlib.Omega.{arith}
-use lib.ListN.{length}
-use Rattle.jobfile.specs.declared.item.Cursor.{Cursor}
 use Rattle.jobfile.specs.Items.{numberAt}
 use Rattle.jobfile.specs.Answers.{gotBy}
-use Rattle.jobfile.proofs.StepLaws.{from-at, from-refused, number-short, number-found}
+use Rattle.jobfile.proofs.StepLaws.{from-at, number-short, number-found}
 use Rattle.jobfile.proofs.item.number.Statement.{statement}
 use Rattle.jobfile.proofs.item.number.Tie as tie
 

@@ -4,7 +4,6 @@ use mathlib.Core.Path.{_≡_, ap, _∙_}
 use Prim.Native.Nat.{ℕ, _+_, _-_, _*_, _^_, _≤_, _<_}
 use native.Mathlib.Nat.{one-le-pow}
 use native.Mathlib.Omega.{arith}
-use lib.ListN.{length}
 use Rattle.jobfile.specs.Items.{valueAt}
 use Rattle.jobfile.proofs.StepLaws.{value-turn, value-room, value-grows, value-none, value-all}
 use Rattle.jobfile.proofs.item.value.Statement.{statement}
@@ -53,8 +52,7 @@ loop-again c =
     let w = c .before .before .before .before .before in
     let a = w .args in
     let l = c .before .before .before .loop in
-    let t = c .before .before .loop-test .taken in
-    (
+    let t = c .before .before .loop-test .taken in (
       omega arith,
       ap (λ (x : ℕ). l .v * 256 + x) (c .wide .ensures .0) ∙ value-turn (a .file .now) (a .at) (a .bytes) (l .i) (l .v) t (l .inv .0) (l .inv .1),
       value-grows (a .file .now) (a .at) (a .bytes) (l .i) (l .v) (c .wide .result) (l .inv .2) (c .wide .ensures .1) t (l .inv .0),

@@ -1,0 +1,158 @@
+-- Whole files as the code reads them: its items, one behind the other, are those of the definition, and its columns are the job's. Assumes nothing.
+use mathlib.Core.Path.{_≡_, refl, ap, sym, _∙_, subst}
+use mathlib.Core.Bool.{Bool, true, false}
+use mathlib.Core.List.{List, [], _∷_, map}
+use Prim.Native.Nat.{ℕ, _+_, _≤_, _<_, zero-le}
+use native.Mathlib.Decide.{decLt}
+use native.Mathlib.Omega.{arith}
+use lib.ListN.{length, getD}
+use lib.Seq.{ext-getD}
+use Rattle.sets.specs.Ranges.{listTo}
+use Rattle.sets.proofs.Ranges.{list-length, list-at, list-past, list-map}
+use Rattle.jobfile.specs.declared.Refusal.{Refusal}
+use Rattle.jobfile.specs.declared.Spot.{Spot}
+use Rattle.jobfile.specs.declared.Verdict.{Verdict}
+use Rattle.jobfile.specs.declared.Verdict.the-variants as Verdict
+use Rattle.jobfile.specs.declared.ReadChoice.{ReadChoice}
+use Rattle.jobfile.specs.declared.ReadFitting.{ReadFitting}
+use Rattle.jobfile.specs.declared.item.Cursor.{Cursor}
+use Rattle.jobfile.specs.declared.item.Cursor.the-variants as Cursor
+use Rattle.jobfile.specs.declared.entry.Rows.{Rows}
+use Rattle.jobfile.specs.Got.{Got, got, refused, eachAt, upFrom}
+use Rattle.jobfile.specs.Items.{spots, kindAt, countAt, setAt}
+use Rattle.jobfile.specs.Layout.{choice, fitting, layoutOf}
+use Rattle.jobfile.specs.Job.{Entry, Job, wishes, clashes, needs, gives, takes}
+use Rattle.jobfile.specs.Read.{entryAt, read, choices, fittings}
+use Rattle.jobfile.specs.Answers.{gotBy, readFrom, finished, ended, entryFrom, rowsOf, Tidy, Column, Columns, padded, startsOf, choiceOf, fittingOf, Few, Within, ChoiceBounds, FittingBounds}
+use Rattle.jobfile.proofs.StepLaws.{each-none, each-more, body-is, file-is}
+
+-- ---- columns as arrays
+
+-- a column is the array of what its records have
+pub column-is : (n : ℕ) (l : List ℕ) → Column n l → n ≤ 64 → (e : ℕ → Entry Spot) (h : Entry Spot → ℕ) → ((i : ℕ) → h (e i) ≡ getD l i 0) → l ≡ padded 64 (map h (listTo n e))
+column-is n l c room e h same = ext-getD 0 l (padded 64 (map h (listTo n e))) (c .size ∙ sym (list-length 64 _)) (λ i k. at i (decLt i n) (omega (arith, c .size)))
+  where
+    at : (i : ℕ) → Dec (i < n) → i < 64 → getD l i 0 ≡ getD (padded 64 (map h (listTo n e))) i 0
+    at i (yes k) m = sym (list-at 64 (λ j. getD (map h (listTo n e)) j 0) 0 i m ∙ ap (λ (g : List ℕ). getD g i 0) (list-map n e h) ∙ list-at n (λ j. h (e j)) 0 i k ∙ same i)
+    at i (no k) m = c .past i (omega arith) ∙ sym (list-at 64 (λ j. getD (map h (listTo n e)) j 0) 0 i m ∙ ap (λ (g : List ℕ). getD g i 0) (list-map n e h) ∙ list-past n (λ j. h (e j)) 0 i (omega arith))
+
+-- where nothing was read every element is 0
+nothing-there : (i : ℕ) → getD (padded 64 []) i 0 ≡ 0
+nothing-there i = go (decLt i 64)
+  where
+    go : Dec (i < 64) → getD (padded 64 []) i 0 ≡ 0
+    go (yes h) = list-at 64 (λ j. 0) 0 i h
+    go (no h) = list-past 64 (λ j. 0) 0 i (omega arith)
+
+within-none : (end : ℕ) → Within end (padded 64 []) (padded 64 [])
+within-none end i = omega (arith, nothing-there i)
+
+tidy-within : (fit : Bool) (end third start len : ℕ) → Tidy fit end third start len → start + len ≤ end
+tidy-within true end third start len t = t
+tidy-within false end third start len t = t .1
+
+-- the records that the columns hold
+abbrev held : Bool → ℕ → Rows → List (Entry Spot)
+held fit n r = listTo n (entryFrom fit (r .first) (r .second) (r .third) (r .starts) (r .lens))
+
+-- ---- a reading up to the end of the file
+
+module _ {A : Type 0} (value : A) (f : List ℕ) (next : Cursor) {end : Cursor} {whole : Got A} (e : end ≡ finished (length f) next) (told : ended value (length f) (finished (length f) next) ≡ whole) where
+  end-refused : {r : Refusal} → end ≡ Cursor.Refused r → refused (r .reason) (r .place) ≡ whole
+  end-refused q = ap (ended value (length f)) (sym q ∙ e) ∙ told
+
+  end-reached : {at : ℕ} → end ≡ Cursor.At at → got value (length f) ≡ whole
+  end-reached q = ap (ended value (length f)) (sym q ∙ e) ∙ told
+
+-- ---- a choice file
+
+module _ (f : List ℕ) (n w order : ℕ) (rows : Rows) (a b c d : Cursor)
+    (kind : gotBy 67 a ≡ kindAt choices f 0) (first : gotBy n b ≡ readFrom a (countAt 1 64 f)) (second : gotBy w c ≡ readFrom b (countAt 1 64 f))
+    (head : gotBy order d ≡ readFrom c (setAt 8 w f)) (entries : rowsOf false n rows ≡ readFrom d (eachAt (entryAt spots choice w) (upFrom n 0) f)) where
+  choiceJob : Job Spot
+  choiceJob = record { kind = 67; counts = n ∷ w ∷ []; heads = order ∷ []; entries = held false n rows }
+
+  choice-read : ended choiceJob (length f) (finished (length f) (rows .next)) ≡ read spots choices f
+  unfolding choiceJob choice layoutOf
+  choice-read =
+      file-is spots choices f 67 choiceJob a (rows .next) kind
+      (body-is spots choice f (n ∷ w ∷ []) (order ∷ []) (held false n rows) c d (rows .next) a
+      (each-more (λ c. countAt (c .bytes) (c .limit)) f (record { bytes = 1; limit = 64 }) (record { bytes = 1; limit = 64 } ∷ []) n (w ∷ []) b c a first
+      (each-more (λ c. countAt (c .bytes) (c .limit)) f (record { bytes = 1; limit = 64 }) [] w [] c c b second (each-none (λ c. countAt (c .bytes) (c .limit)) f c)))
+      (each-more (λ bytes. setAt bytes w) f 8 [] order [] d d c head (each-none (λ bytes. setAt bytes w) f d))
+      entries)
+
+  -- it was refused
+  pub choice-refused : {end : Cursor} {r : Refusal} {x : ReadChoice} → end ≡ finished (length f) (rows .next) → end ≡ Cursor.Refused r → x ≡ choiceOf (refused (r .reason) (r .place))
+      → (x ≡ choiceOf (read spots choices f)) × ChoiceBounds f x
+  choice-refused {end} {r} {x} e q h =
+      let told = end-refused choiceJob f (rows .next) e choice-read q in
+      (h ∙ ap choiceOf told, rw h (zero-le, zero-le, within-none (length f), subst (Few 64) told tt))
+
+  -- it was accepted
+  pub choice-accepted : {end : Cursor} {at : ℕ} → end ≡ finished (length f) (rows .next) → end ≡ Cursor.At at → n ≤ 64 → w ≤ 64 → Columns false n (length f) rows
+      → let x : ReadChoice = record { verdict = Verdict.Accepted; articles = n; «wish_count» = w; order = order; wishes = rows .first; clashes = rows .second; starts = rows .starts; lens = rows .lens } in
+      (x ≡ choiceOf (read spots choices f)) × ChoiceBounds f x
+  unfolding choiceJob
+  choice-accepted {end} {at} e q ln lw ok =
+      let told = end-reached choiceJob f (rows .next) e choice-read q in
+      let from = entryFrom false (rows .first) (rows .second) (rows .third) (rows .starts) (rows .lens) in
+      let one = column-is n (rows .first) (ok .first) ln from (λ e. getD (e .sets) 0 0) (λ i. refl) in
+      let two = column-is n (rows .second) (ok .second) ln from (λ e. getD (e .sets) 1 0) (λ i. refl) in
+      let starts = column-is n (rows .starts) (ok .starts) ln from (λ e. e .name .start) (λ i. refl) in
+      let lens = column-is n (rows .lens) (ok .lens) ln from (λ e. e .name .len) (λ i. refl) in (
+        ap (λ (l : List ℕ). record { verdict = Verdict.Accepted; articles = n; «wish_count» = w; order = order; wishes = l; clashes = rows .second; starts = rows .starts; lens = rows .lens }) one
+            ∙ ap (λ (l : List ℕ). record { verdict = Verdict.Accepted; articles = n; «wish_count» = w; order = order; wishes = padded 64 (wishes choiceJob); clashes = l; starts = rows .starts; lens = rows .lens }) two
+            ∙ ap (λ (l : List ℕ). record { verdict = Verdict.Accepted; articles = n; «wish_count» = w; order = order; wishes = padded 64 (wishes choiceJob); clashes = padded 64 (clashes choiceJob); starts = l; lens = rows .lens }) starts
+            ∙ ap (λ (l : List ℕ). record { verdict = Verdict.Accepted; articles = n; «wish_count» = w; order = order; wishes = padded 64 (wishes choiceJob); clashes = padded 64 (clashes choiceJob); starts = padded 64 (startsOf (choiceJob .entries)); lens = l }) lens
+            ∙ ap choiceOf told,
+        (ln, lw, λ i. tidy-within false (length f) _ _ _ (ok .tidy i), subst (Few 64) told (omega (arith, list-length n from))),
+      )
+
+-- ---- a fitting file
+
+module _ (f : List ℕ) (n m rounds begin goal : ℕ) (rows : Rows) (a b c d e₁ g : Cursor)
+    (kind : gotBy 70 a ≡ kindAt fittings f 0) (first : gotBy n b ≡ readFrom a (countAt 1 32 f)) (second : gotBy m c ≡ readFrom b (countAt 1 32 f)) (third : gotBy rounds d ≡ readFrom c (countAt 1 16 f))
+    (head : gotBy begin e₁ ≡ readFrom d (setAt 4 m f)) (aim : gotBy goal g ≡ readFrom e₁ (setAt 4 m f)) (entries : rowsOf true n rows ≡ readFrom g (eachAt (entryAt spots fitting m) (upFrom n 0) f)) where
+  fittingJob : Job Spot
+  fittingJob = record { kind = 70; counts = n ∷ m ∷ rounds ∷ []; heads = begin ∷ goal ∷ []; entries = held true n rows }
+
+  fitting-read : ended fittingJob (length f) (finished (length f) (rows .next)) ≡ read spots fittings f
+  unfolding fittingJob fitting layoutOf
+  fitting-read =
+      file-is spots fittings f 70 fittingJob a (rows .next) kind
+      (body-is spots fitting f (n ∷ m ∷ rounds ∷ []) (begin ∷ goal ∷ []) (held true n rows) d g (rows .next) a
+      (each-more (λ c. countAt (c .bytes) (c .limit)) f (record { bytes = 1; limit = 32 }) (record { bytes = 1; limit = 32 } ∷ record { bytes = 1; limit = 16 } ∷ []) n (m ∷ rounds ∷ []) b d a first
+      (each-more (λ c. countAt (c .bytes) (c .limit)) f (record { bytes = 1; limit = 32 }) (record { bytes = 1; limit = 16 } ∷ []) m (rounds ∷ []) c d b second
+      (each-more (λ c. countAt (c .bytes) (c .limit)) f (record { bytes = 1; limit = 16 }) [] rounds [] d d c third (each-none (λ c. countAt (c .bytes) (c .limit)) f d))))
+      (each-more (λ bytes. setAt bytes m) f 4 (4 ∷ []) begin (goal ∷ []) e₁ g d head
+      (each-more (λ bytes. setAt bytes m) f 4 [] goal [] g g e₁ aim (each-none (λ bytes. setAt bytes m) f g)))
+      entries)
+
+  pub fitting-refused : {end : Cursor} {r : Refusal} {x : ReadFitting} → end ≡ finished (length f) (rows .next) → end ≡ Cursor.Refused r → x ≡ fittingOf (refused (r .reason) (r .place))
+      → (x ≡ fittingOf (read spots fittings f)) × FittingBounds f x
+  fitting-refused {end} {r} {x} e q h =
+      let told = end-refused fittingJob f (rows .next) e fitting-read q in
+      (h ∙ ap fittingOf told, rw h (zero-le, zero-le, zero-le, within-none (length f), subst (Few 32) told tt))
+
+  pub fitting-accepted : {end : Cursor} {at : ℕ} → end ≡ finished (length f) (rows .next) → end ≡ Cursor.At at → n ≤ 32 → m ≤ 32 → rounds ≤ 16 → Columns true n (length f) rows
+      → let x : ReadFitting = record { verdict = Verdict.Accepted; steps = n; facts = m; horizon = rounds; start = begin; goal = goal; needs = rows .first; gives = rows .second; takes = rows .third; starts = rows .starts; lens = rows .lens } in
+      (x ≡ fittingOf (read spots fittings f)) × FittingBounds f x
+  unfolding fittingJob
+  fitting-accepted {end} {at} e q ln lm lr ok =
+      let told = end-reached fittingJob f (rows .next) e fitting-read q in
+      let from = entryFrom true (rows .first) (rows .second) (rows .third) (rows .starts) (rows .lens) in
+      let room : n ≤ 64 = omega arith in
+      let one = column-is n (rows .first) (ok .first) room from (λ e. getD (e .sets) 0 0) (λ i. refl) in
+      let two = column-is n (rows .second) (ok .second) room from (λ e. getD (e .sets) 1 0) (λ i. refl) in
+      let three = column-is n (rows .third) (ok .third) room from (λ e. getD (e .sets) 2 0) (λ i. refl) in
+      let starts = column-is n (rows .starts) (ok .starts) room from (λ e. e .name .start) (λ i. refl) in
+      let lens = column-is n (rows .lens) (ok .lens) room from (λ e. e .name .len) (λ i. refl) in (
+        ap (λ (l : List ℕ). record { verdict = Verdict.Accepted; steps = n; facts = m; horizon = rounds; start = begin; goal = goal; needs = l; gives = rows .second; takes = rows .third; starts = rows .starts; lens = rows .lens }) one
+            ∙ ap (λ (l : List ℕ). record { verdict = Verdict.Accepted; steps = n; facts = m; horizon = rounds; start = begin; goal = goal; needs = padded 64 (needs fittingJob); gives = l; takes = rows .third; starts = rows .starts; lens = rows .lens }) two
+            ∙ ap (λ (l : List ℕ). record { verdict = Verdict.Accepted; steps = n; facts = m; horizon = rounds; start = begin; goal = goal; needs = padded 64 (needs fittingJob); gives = padded 64 (gives fittingJob); takes = l; starts = rows .starts; lens = rows .lens }) three
+            ∙ ap (λ (l : List ℕ). record { verdict = Verdict.Accepted; steps = n; facts = m; horizon = rounds; start = begin; goal = goal; needs = padded 64 (needs fittingJob); gives = padded 64 (gives fittingJob); takes = padded 64 (takes fittingJob); starts = l; lens = rows .lens }) starts
+            ∙ ap (λ (l : List ℕ). record { verdict = Verdict.Accepted; steps = n; facts = m; horizon = rounds; start = begin; goal = goal; needs = padded 64 (needs fittingJob); gives = padded 64 (gives fittingJob); takes = padded 64 (takes fittingJob); starts = padded 64 (startsOf (fittingJob .entries)); lens = l }) lens
+            ∙ ap fittingOf told,
+        (ln, lm, lr, λ i. tidy-within true (length f) 0 _ _ (ok .tidy i), subst (Few 32) told (omega (arith, list-length n from))),
+      )
