@@ -13,8 +13,8 @@ use Rattle.sets.specs.Ranges.{num}
 use Rattle.sets.specs.Sets.{bit, member}
 use Rattle.sets.proofs.Ranges.{num-le}
 use Rattle.sets.proofs.Bits.{num-member, member-yes, member-no}
-use Rattle.jobfile.specs.Got.{optional}
-use Rattle.jobfile.specs.Items.{bytesIn, fieldAt, nameAt}
+use Rattle.reading.specs.Got.{optional}
+use Rattle.reading.specs.Items.{bytesIn, fieldAt, nameAt}
 use Rattle.jobfile.specs.Layout.{SetField, Layout}
 use Rattle.jobfile.specs.Job.{Entry}
 use Rattle.jobfile.specs.Read.{below, setsAt, entryAt}

@@ -11,8 +11,8 @@ use lib.ListN.{length, getD}
 use lib.Pow.{pow-mono}
 use borrow.Author.Tests.{eqb-true}
 use Rattle.sets.proofs.Ranges.{either-true}
-use Rattle.jobfile.specs.Got.{eachAt, upFrom}
-use Rattle.jobfile.specs.Items.{bytesIn, countAt, setAt}
+use Rattle.reading.specs.Got.{eachAt, upFrom}
+use Rattle.reading.specs.Items.{bytesIn, countAt, setAt}
 use Rattle.jobfile.specs.Layout.{Count, Bound, counted, own, SetField, Layout, choice, fitting, layoutOf}
 use Rattle.jobfile.specs.Job.{Entry, Job}
 use Rattle.jobfile.specs.Read.{below, entryAt, bodyAt, either}

@@ -10,9 +10,9 @@ use lib.Dec.{leb, ltb, eqb, lit<}
 use lib.ListN.{length, getD, take, drop, length-drop, take-append-drop}
 use lib.Seq.{drop-cons, drop-drop, getD-drop, take-at, length-take-le}
 use borrow.Author.Tests.{leb-false, ltb-false, lt-leb, le-ltb, eqb-false, ne-eqb, not-false}
-use Rattle.jobfile.specs.declared.Reason.the-variants.{WrongKind, EndsEarly, OverLimit, ForbiddenBit, EmptyField, AbsentMember, LongName}
-use Rattle.jobfile.specs.Got.{got, refuse}
-use Rattle.jobfile.specs.Items.{bytesIn, kindAt, valueAt, numberAt, countAt, mapAt, setAt, fieldAt, lengthAt, nameAt}
+use Rattle.reading.specs.declared.Reason.the-variants.{WrongKind, EndsEarly, OverLimit, ForbiddenBit, EmptyField, AbsentMember, LongName}
+use Rattle.reading.specs.Got.{got, refuse}
+use Rattle.reading.specs.Items.{bytesIn, kindAt, valueAt, numberAt, countAt, mapAt, setAt, fieldAt, lengthAt, nameAt}
 use Rattle.jobfile.specs.Write.{bytesOf}
 use Rattle.jobfile.specs.Valid.{Bytes}
 use Rattle.jobfile.proofs.Lawful.{Lawful, refuse-got, same-value, same-next, in-front, front, behind, ends-within, checked-lawful, seq-lawful, restate}

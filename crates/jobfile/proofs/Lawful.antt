@@ -9,8 +9,8 @@ use native.Mathlib.Numerals.{add-one}
 use native.Mathlib.Omega.{arith}
 use lib.ListN.{length, drop, getD, length-append, length-drop}
 use lib.Seq.{drop-cons, drop-drop, drop-append-seam}
-use Rattle.jobfile.specs.declared.Reason.{Reason}
-use Rattle.jobfile.specs.Got.{Got, got, refused, Reader, refuse, andThen, checked, optional, eachAt, upFrom}
+use Rattle.reading.specs.declared.Reason.{Reason}
+use Rattle.reading.specs.Got.{Got, got, refused, Reader, refuse, andThen, checked, optional, eachAt, upFrom}
 use Rattle.jobfile.specs.Write.{writeEach, writeAll}
 use Rattle.jobfile.specs.Valid.{Bytes, Each, AllFrom}
 

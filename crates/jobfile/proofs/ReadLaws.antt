@@ -9,22 +9,24 @@ use lib.ListN.{length, getD}
 use lib.Seq.{ext-getD}
 use Rattle.sets.specs.Ranges.{listTo}
 use Rattle.sets.proofs.Ranges.{list-length, list-at, list-past, list-map}
-use Rattle.jobfile.specs.declared.Refusal.{Refusal}
-use Rattle.jobfile.specs.declared.Spot.{Spot}
+use Rattle.reading.specs.declared.Refusal.{Refusal}
+use Rattle.reading.specs.declared.Spot.{Spot}
 use Rattle.jobfile.specs.declared.Verdict.{Verdict}
 use Rattle.jobfile.specs.declared.Verdict.the-variants as Verdict
 use Rattle.jobfile.specs.declared.ReadChoice.{ReadChoice}
 use Rattle.jobfile.specs.declared.ReadFitting.{ReadFitting}
-use Rattle.jobfile.specs.declared.item.Cursor.{Cursor}
-use Rattle.jobfile.specs.declared.item.Cursor.the-variants as Cursor
+use Rattle.reading.specs.declared.item.Cursor.{Cursor}
+use Rattle.reading.specs.declared.item.Cursor.the-variants as Cursor
 use Rattle.jobfile.specs.declared.entry.Rows.{Rows}
-use Rattle.jobfile.specs.Got.{Got, got, refused, eachAt, upFrom}
-use Rattle.jobfile.specs.Items.{spots, kindAt, countAt, setAt}
+use Rattle.reading.specs.Got.{Got, got, refused, eachAt, upFrom}
+use Rattle.reading.specs.Items.{spots, kindAt, countAt, setAt}
 use Rattle.jobfile.specs.Layout.{choice, fitting, layoutOf}
 use Rattle.jobfile.specs.Job.{Entry, Job, wishes, clashes, needs, gives, takes}
 use Rattle.jobfile.specs.Read.{entryAt, read, choices, fittings}
-use Rattle.jobfile.specs.Answers.{gotBy, readFrom, finished, ended, entryFrom, rowsOf, Tidy, Column, Columns, padded, startsOf, choiceOf, fittingOf, Few, Within, ChoiceBounds, FittingBounds}
-use Rattle.jobfile.proofs.StepLaws.{each-none, each-more, body-is, file-is}
+use Rattle.reading.specs.Cursors.{gotBy, readFrom, finished, ended}
+use Rattle.jobfile.specs.Answers.{entryFrom, rowsOf, Tidy, Column, Columns, padded, startsOf, choiceOf, fittingOf, Few, Within, ChoiceBounds, FittingBounds}
+use Rattle.reading.proofs.StepLaws.{each-none, each-more}
+use Rattle.jobfile.proofs.StepLaws.{body-is, file-is}
 
 -- ---- columns as arrays
 

@@ -11,17 +11,18 @@ use lib.ListN.{length, getD, set, replicate, length-set, length-replicate, getD-
 use lib.Seq.{getD-set-same, getD-set-other}
 use Rattle.sets.specs.Ranges.{listTo}
 use Rattle.sets.proofs.Ranges.{list-cong, list-turn}
-use Rattle.jobfile.specs.declared.Spot.{Spot}
-use Rattle.jobfile.specs.declared.item.Cursor.{Cursor}
-use Rattle.jobfile.specs.declared.item.Cursor.the-variants as Cursor
+use Rattle.reading.specs.declared.Spot.{Spot}
+use Rattle.reading.specs.declared.item.Cursor.{Cursor}
+use Rattle.reading.specs.declared.item.Cursor.the-variants as Cursor
 use Rattle.jobfile.specs.declared.entry.Row.{Row}
 use Rattle.jobfile.specs.declared.entry.Rows.{Rows}
-use Rattle.jobfile.specs.Got.{Got, got, refused, Reader, andThen, eachAt, upFrom}
-use Rattle.jobfile.specs.Items.{spots}
+use Rattle.reading.specs.Got.{Got, got, refused, Reader, andThen, eachAt, upFrom}
+use Rattle.reading.specs.Items.{spots}
 use Rattle.jobfile.specs.Job.{Entry}
 use Rattle.jobfile.specs.Read.{entryAt}
-use Rattle.jobfile.specs.Answers.{readFrom, layoutBy, setsBy, entryOf, entryFrom, Tidy, rowsOf, Column, Columns}
-use Rattle.jobfile.proofs.StepLaws.{and-assoc, settled, advance}
+use Rattle.reading.specs.Cursors.{readFrom}
+use Rattle.jobfile.specs.Answers.{layoutBy, setsBy, entryOf, entryFrom, Tidy, rowsOf, Column, Columns}
+use Rattle.reading.proofs.StepLaws.{and-assoc, settled, advance}
 
 -- ---- columns
 

@@ -8,9 +8,9 @@ use lib.Dec.{ltb}
 use lib.ListN.{length, drop}
 use lib.Seq.{drop-length}
 use borrow.Author.Tests.{ltb-false, le-ltb}
-use Rattle.jobfile.specs.declared.Reason.the-variants.{TrailingBytes}
-use Rattle.jobfile.specs.Got.{Got, got, andThen}
-use Rattle.jobfile.specs.Items.{bytesIn, kindAt}
+use Rattle.reading.specs.declared.Reason.the-variants.{TrailingBytes}
+use Rattle.reading.specs.Got.{Got, got, andThen}
+use Rattle.reading.specs.Items.{bytesIn, kindAt}
 use Rattle.jobfile.specs.Layout.{layoutOf}
 use Rattle.jobfile.specs.Job.{Job}
 use Rattle.jobfile.specs.Read.{bodyAt, read, readJob, either}

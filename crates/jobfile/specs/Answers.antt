@@ -1,67 +1,24 @@
 -- What the answers of the code mean.
 use mathlib.Core.Path.{_≡_}
-use mathlib.Core.Bool.{Bool, true, false, cond}
+use mathlib.Core.Bool.{Bool, true, false}
 use mathlib.Core.List.{List, [], _∷_, map}
 use Prim.Native.Nat.{ℕ, _+_, _≤_}
-use lib.Dec.{ltb}
 use lib.ListN.{length, getD}
 use Rattle.sets.specs.Ranges.{listTo}
-use Rattle.jobfile.specs.declared.Reason.{Reason}
-use Rattle.jobfile.specs.declared.Reason.the-variants.{TrailingBytes}
-use Rattle.jobfile.specs.declared.Spot.{Spot}
-use Rattle.jobfile.specs.declared.item.Cursor.{Cursor}
-use Rattle.jobfile.specs.declared.item.Cursor.the-variants as Cursor
-use Rattle.jobfile.specs.declared.item.Item.{Item}
-use Rattle.jobfile.specs.declared.item.Named.{Named}
+use Rattle.reading.specs.declared.Spot.{Spot}
+use Rattle.reading.specs.declared.item.Cursor.the-variants as Cursor
 use Rattle.jobfile.specs.declared.entry.Row.{Row}
 use Rattle.jobfile.specs.declared.entry.Rows.{Rows}
-use Rattle.jobfile.specs.Got.{Got, got, refused}
+use Rattle.reading.specs.Got.{Got, got, refused}
+use Rattle.reading.specs.Cursors.{gotBy}
 use Rattle.jobfile.specs.Layout.{Layout, choice, fitting}
 use Rattle.jobfile.specs.declared.Verdict.{Verdict}
 use Rattle.jobfile.specs.declared.Verdict.the-variants as Verdict
 use Rattle.jobfile.specs.declared.ReadChoice.{ReadChoice}
 use Rattle.jobfile.specs.declared.ReadFitting.{ReadFitting}
-use Rattle.jobfile.specs.Items.{spots}
+use Rattle.reading.specs.Items.{spots}
 use Rattle.jobfile.specs.Read.{read, choices, fittings}
 use Rattle.jobfile.specs.Job.{Entry, Job, namesOf, size, wishCount, order, wishes, clashes, factCount, horizon, start, goal, needs, gives, takes}
-
--- ---- where reading stands
-
--- a value that was read, and where reading stands behind it
-abbrev pub gotBy : {A : Type 0} → A → Cursor → Got A
-gotBy value (Cursor.At at) = got value at
-gotBy value (Cursor.Refused r) = refused (r .reason) (r .place)
-
--- a reader goes on from there
-abbrev pub readFrom : {A : Type 0} → Cursor → (ℕ → Got A) → Got A
-readFrom (Cursor.At at) reader = reader at
-readFrom (Cursor.Refused r) reader = refused (r .reason) (r .place)
-
-abbrev pub placeOf : Cursor → ℕ
-placeOf (Cursor.At at) = at
-placeOf (Cursor.Refused r) = 0
-
-abbrev pub stopped : Cursor → Reason → ℕ → Cursor
-stopped (Cursor.At at) reason place = Cursor.Refused (record { reason = reason; place = place })
-stopped (Cursor.Refused r) reason place = Cursor.Refused r
-
--- reason 8, where the file has this length
-abbrev pub finished : ℕ → Cursor → Cursor
-finished end (Cursor.At at) = cond (ltb at end) (Cursor.Refused (record { reason = TrailingBytes; place = at })) (Cursor.At at)
-finished end (Cursor.Refused r) = Cursor.Refused r
-
--- a file that was read up to its end
-abbrev pub ended : {A : Type 0} → A → ℕ → Cursor → Got A
-ended value end (Cursor.At at) = got value end
-ended value end (Cursor.Refused r) = refused (r .reason) (r .place)
-
--- ---- items
-
-abbrev pub itemOf : Item → Got ℕ
-itemOf i = gotBy (i .value) (i .next)
-
-abbrev pub nameOf : Named → Got Spot
-nameOf n = gotBy (n .spot) (n .next)
 
 -- ---- records: of a fitting file, or of a choice file
 

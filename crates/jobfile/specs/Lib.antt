@@ -1,8 +1,5 @@
--- Job files, in the order of docs/RULES.md: the reasons, what reading gives, the items, the layouts of the two kinds, the job that a file states,
--- its reading, its writing, and which jobs are valid; then what the answers of the code mean.
-pub mod Reasons
-pub mod Got
-pub mod Items
+-- Job files, in the order of docs/RULES.md: the layouts of the two kinds, the job that a file states, its reading, its writing, and which jobs
+-- are valid; then what the answers of the code mean.
 pub mod Layout
 pub mod Job
 pub mod Read

@@ -5,9 +5,9 @@ use Prim.Native.Nat.{ℕ, suc}
 use lib.Dec.{ltb, eqb}
 use lib.ListN.{length, getD}
 use Rattle.sets.specs.Sets.{member}
-use Rattle.jobfile.specs.declared.Reason.the-variants.{TrailingBytes}
-use Rattle.jobfile.specs.Got.{Got, got, refused, Reader, refuse, andThen, optional, eachAt, upFrom}
-use Rattle.jobfile.specs.Items.{Naming, bytesIn, kindAt, countAt, mapAt, setAt, fieldAt, nameAt}
+use Rattle.reading.specs.declared.Reason.the-variants.{TrailingBytes}
+use Rattle.reading.specs.Got.{Got, got, refused, Reader, refuse, andThen, optional, eachAt, upFrom}
+use Rattle.reading.specs.Items.{Naming, bytesIn, kindAt, countAt, mapAt, setAt, fieldAt, nameAt}
 use Rattle.jobfile.specs.Layout.{Bound, counted, own, SetField, Layout, layoutOf}
 use Rattle.jobfile.specs.Job.{Entry, Job}
 

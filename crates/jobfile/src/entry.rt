@@ -3,13 +3,14 @@ ghost use mathlib.Core.Path.{_≡_};
 ghost use mathlib.Core.Bool.{true, false};
 ghost use Prim.Native.Nat.{_+_, _≤_};
 ghost use lib.ListN.{length};
-ghost use Rattle.jobfile.specs.Got.{eachAt, upFrom};
-ghost use Rattle.jobfile.specs.Items.{spots};
+ghost use Rattle.reading.specs.Got.{eachAt, upFrom};
+ghost use Rattle.reading.specs.Items.{spots};
 ghost use Rattle.jobfile.specs.Read.{entryAt};
-ghost use Rattle.jobfile.specs.Answers.{readFrom, layoutBy, entryOf, Tidy, rowsOf, Columns};
-use crate::Spot;
-use crate::item;
-use crate::item::Cursor;
+ghost use Rattle.reading.specs.Cursors.{readFrom};
+ghost use Rattle.jobfile.specs.Answers.{layoutBy, entryOf, Tidy, rowsOf, Columns};
+use reading::Spot;
+use reading::item;
+use reading::item::Cursor;
 use sets::word;
 
 // A record as it is read: its sets in the order of their bits, the third 0 for an article, and its name.

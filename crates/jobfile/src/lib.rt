@@ -2,74 +2,16 @@
 //
 // The formats stand in specs/Layout.antt, as tables, and what reading gives in specs/Read.antt.
 ghost use mathlib.Core.Path.{_≡_};
-ghost use Rattle.jobfile.specs.Reasons.{numberOf};
-ghost use Rattle.jobfile.specs.Items.{spots};
+ghost use Rattle.reading.specs.Items.{spots};
 ghost use Rattle.jobfile.specs.Read.{read, choices, fittings};
 
 pub mod entry;
 
-ghost use Rattle.jobfile.specs.Got.{refused};
+ghost use Rattle.reading.specs.Got.{refused};
 ghost use Rattle.jobfile.specs.Answers.{choiceOf, fittingOf, ChoiceBounds, FittingBounds};
-
-pub mod item;
-
-use crate::item::Cursor;
-
-// Why a call is turned down. The rules' number of each stands in specs/Reasons.antt.
-pub enum Reason {
-    WrongKind,
-    EndsEarly,
-    OverLimit,
-    ForbiddenBit,
-    EmptyField,
-    AbsentMember,
-    LongName,
-    TrailingBytes,
-    LayerOutOfRange,
-    ShortBuffer,
-    FalsePartition,
-    LiveOutsideFile,
-    BadGoal,
-    NoSelection,
-    NoPlan,
-    NameNotFound,
-}
-
-// A reason, and the place that the rules give it.
-pub struct Refusal {
-    pub reason: Reason,
-    pub place: usize,
-}
-
-// Where the bytes of a name stand in a file: 0 and 0 where there is none.
-pub struct Spot {
-    pub start: usize,
-    pub len: usize,
-}
-
-// The rules' number of a reason.
-pub fn number(reason: Reason) -> u32
-    ensures { λ r. ⌜ r ≡ numberOf reason ⌝ }
-{
-    match reason {
-        Reason::WrongKind => 1,
-        Reason::EndsEarly => 2,
-        Reason::OverLimit => 3,
-        Reason::ForbiddenBit => 4,
-        Reason::EmptyField => 5,
-        Reason::AbsentMember => 6,
-        Reason::LongName => 7,
-        Reason::TrailingBytes => 8,
-        Reason::LayerOutOfRange => 9,
-        Reason::ShortBuffer => 10,
-        Reason::FalsePartition => 11,
-        Reason::LiveOutsideFile => 12,
-        Reason::BadGoal => 13,
-        Reason::NoSelection => 14,
-        Reason::NoPlan => 15,
-        Reason::NameNotFound => 16,
-    }
-}
+use reading::Refusal;
+use reading::item;
+use reading::item::Cursor;
 
 // Whether a file is accepted.
 pub enum Verdict {

@@ -2,9 +2,10 @@
 use borrow.Author.Needs.{needs}
 use mathlib.Core.Path.{refl}
 use mathlib.Core.List.{[], _∷_}
-use Rattle.jobfile.specs.Items.{fieldAt, nameAt, spots}
+use Rattle.reading.specs.Items.{fieldAt, nameAt, spots}
 use Rattle.jobfile.specs.Layout.{counted, own, choice}
-use Rattle.jobfile.proofs.StepLaws.{marked-by, sets-none, sets-more, entry-is}
+use Rattle.reading.proofs.StepLaws.{marked-by}
+use Rattle.jobfile.proofs.StepLaws.{sets-none, sets-more, entry-is}
 use Rattle.jobfile.proofs.entry.article.Statement.{statement}
 use Rattle.jobfile.proofs.entry.article.Tie as tie
 

@@ -1,9 +1,10 @@
 -- `jobfile::entry::step` meets its contract, as `article` does.
 use borrow.Author.Needs.{needs}
 use mathlib.Core.List.{[], _∷_}
-use Rattle.jobfile.specs.Items.{fieldAt, nameAt, spots}
+use Rattle.reading.specs.Items.{fieldAt, nameAt, spots}
 use Rattle.jobfile.specs.Layout.{counted, fitting}
-use Rattle.jobfile.proofs.StepLaws.{marked-by, sets-none, sets-more, entry-is}
+use Rattle.reading.proofs.StepLaws.{marked-by}
+use Rattle.jobfile.proofs.StepLaws.{sets-none, sets-more, entry-is}
 use Rattle.jobfile.proofs.entry.step.Statement.{statement}
 use Rattle.jobfile.proofs.entry.step.Tie as tie
 

@@ -1,0 +1,2 @@
+-- The laws of reading on from a cursor.
+pub mod StepLaws
