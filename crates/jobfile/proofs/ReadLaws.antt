@@ -1,11 +1,12 @@
 -- Whole files as the code reads them: its items, one behind the other, are those of the definition, and its columns are the job's. Assumes nothing.
 use mathlib.Core.Path.{_≡_, refl, ap, sym, _∙_, subst}
-use mathlib.Core.Bool.{Bool, true, false}
+use mathlib.Core.Bool.{Bool, true, false, _||_}
 use mathlib.Core.List.{List, [], _∷_, map}
-use Prim.Native.Nat.{ℕ, _+_, _≤_, _<_, zero-le}
+use Prim.Native.Nat.{ℕ, zero, suc, _+_, _≤_, _<_, zero-le}
 use native.Mathlib.Decide.{decLt}
 use native.Mathlib.Omega.{arith}
-use lib.ListN.{length, getD}
+use lib.Dec.{eqb}
+use lib.ListN.{length, getD, List·getD-eq-default}
 use lib.Seq.{ext-getD}
 use Rattle.sets.specs.Ranges.{listTo}
 use Rattle.sets.proofs.Ranges.{list-length, list-at, list-past, list-map}
@@ -19,12 +20,12 @@ use Rattle.reading.specs.declared.item.Cursor.{Cursor}
 use Rattle.reading.specs.declared.item.Cursor.the-variants as Cursor
 use Rattle.jobfile.specs.declared.entry.Rows.{Rows}
 use Rattle.reading.specs.Got.{Got, got, refused, eachAt, upFrom}
-use Rattle.reading.specs.Items.{spots, kindAt, countAt, setAt}
+use Rattle.reading.specs.Items.{Naming, spots, kindAt, countAt, setAt}
 use Rattle.jobfile.specs.Layout.{choice, fitting, layoutOf}
-use Rattle.jobfile.specs.Job.{Entry, Job, wishes, clashes, needs, gives, takes}
-use Rattle.jobfile.specs.Read.{entryAt, read, choices, fittings}
+use Rattle.jobfile.specs.Job.{Entry, Job, namesOf, wishes, clashes, needs, gives, takes}
+use Rattle.jobfile.specs.Read.{entryAt, read, choices, fittings, either}
 use Rattle.reading.specs.Cursors.{gotBy, readFrom, finished, ended}
-use Rattle.jobfile.specs.Answers.{entryFrom, rowsOf, Tidy, Column, Columns, padded, startsOf, choiceOf, fittingOf, Few, Within, ChoiceBounds, FittingBounds}
+use Rattle.jobfile.specs.Answers.{lensOf, spotOf, spotIn, entryFrom, rowsOf, Tidy, Column, Columns, padded, startsOf, choiceOf, fittingOf, Few, Within, ChoiceBounds, FittingBounds}
 use Rattle.reading.proofs.StepLaws.{each-none, each-more}
 use Rattle.jobfile.proofs.StepLaws.{body-is, file-is}
 
@@ -158,3 +159,67 @@ module _ (f : List ℕ) (n m rounds begin goal : ℕ) (rows : Rows) (a b c d e�
             ∙ ap fittingOf told,
         (ln, lm, lr, λ i. tidy-within true (length f) 0 _ _ (ok .tidy i), subst (Few 32) told (omega (arith, list-length n from))),
       )
+
+-- ---- names of either kind
+
+-- which kind a call takes matters only at the kind that the file has
+kind-by : (takes takes′ : ℕ → Bool) (f : List ℕ) → takes (getD f 0 0) ≡ takes′ (getD f 0 0) → kindAt takes f 0 ≡ kindAt takes′ f 0
+unfolding kindAt
+kind-by takes takes′ f e = rw e
+
+read-by : {N : Type 0} (names : Naming N) (takes takes′ : ℕ → Bool) (f : List ℕ) → takes (getD f 0 0) ≡ takes′ (getD f 0 0) → read names takes f ≡ read names takes′ f
+unfolding read
+read-by names takes takes′ f e = rw (kind-by takes takes′ f e)
+
+pub either-fitting : {N : Type 0} (names : Naming N) (f : List ℕ) → eqb (getD f 0 0) 70 ≡ true → read names either f ≡ read names fittings f
+either-fitting names f e = read-by names either fittings f (go (eqb (getD f 0 0) 67) ∙ sym e)
+  where
+    go : (b : Bool) → b || eqb (getD f 0 0) 70 ≡ true
+    go true = refl
+    go false = e
+
+pub either-choice : {N : Type 0} (names : Naming N) (f : List ℕ) → eqb (getD f 0 0) 70 ≡ false → read names either f ≡ read names choices f
+either-choice names f e = read-by names either choices f (go (eqb (getD f 0 0) 67))
+  where
+    go : (b : Bool) → b || eqb (getD f 0 0) 70 ≡ b
+    go true = refl
+    go false = e
+
+-- behind the end of the columns there is nothing
+pub spot-past : (starts lens : List ℕ) (i : ℕ) → length starts ≡ 64 → length lens ≡ 64 → 64 ≤ i → record { start = 0; len = 0 } ≡ spotOf starts lens i
+spot-past starts lens i p q h = rw (List·getD-eq-default starts 0 {n = i} (omega arith), List·getD-eq-default lens 0 {n = i} (omega arith))
+
+-- the columns of names hold the spots
+start-at : (entries : List (Entry Spot)) (i : ℕ) → getD (startsOf entries) i 0 ≡ getD (namesOf entries) i (spots .absent) .start
+start-at [] i = refl
+start-at (e ∷ es) zero = refl
+start-at (e ∷ es) (suc i) = start-at es i
+
+len-at : (entries : List (Entry Spot)) (i : ℕ) → getD (lensOf entries) i 0 ≡ getD (namesOf entries) i (spots .absent) .len
+len-at [] i = refl
+len-at (e ∷ es) zero = refl
+len-at (e ∷ es) (suc i) = len-at es i
+
+length-names : (entries : List (Entry Spot)) → length (namesOf entries) ≡ length entries
+length-names [] = refl
+length-names (e ∷ es) = ap suc (length-names es)
+
+spot-at : (entries : List (Entry Spot)) → length entries ≤ 64 → (i : ℕ) → spotOf (padded 64 (startsOf entries)) (padded 64 (lensOf entries)) i ≡ getD (namesOf entries) i (spots .absent)
+spot-at entries few i = go (decLt i 64)
+  where
+    both : (s l : ℕ) → s ≡ getD (namesOf entries) i (spots .absent) .start → l ≡ getD (namesOf entries) i (spots .absent) .len → record { start = s; len = l } ≡ getD (namesOf entries) i (spots .absent)
+    both s l p q = rw (p, q)
+
+    go : Dec (i < 64) → spotOf (padded 64 (startsOf entries)) (padded 64 (lensOf entries)) i ≡ getD (namesOf entries) i (spots .absent)
+    go (yes h) = both _ _ (list-at 64 (λ j. getD (startsOf entries) j 0) 0 i h ∙ start-at entries i) (list-at 64 (λ j. getD (lensOf entries) j 0) 0 i h ∙ len-at entries i)
+    go (no h) =
+        let none = List·getD-eq-default (namesOf entries) (spots .absent) {n = i} (omega (arith, length-names entries)) in
+        both _ _ (list-past 64 (λ j. getD (startsOf entries) j 0) 0 i (omega arith) ∙ sym (ap (λ (s : Spot). s .start) none)) (list-past 64 (λ j. getD (lensOf entries) j 0) 0 i (omega arith) ∙ sym (ap (λ (s : Spot). s .len) none))
+
+pub choice-spot : (g : Got (Job Spot)) → Few 64 g → (i : ℕ) → spotOf (choiceOf g .starts) (choiceOf g .lens) i ≡ spotIn g i
+choice-spot (refused reason place) few i = spot-at [] zero-le i
+choice-spot (got job end) few i = spot-at (job .entries) few i
+
+pub fitting-spot : (g : Got (Job Spot)) → Few 32 g → (i : ℕ) → spotOf (fittingOf g .starts) (fittingOf g .lens) i ≡ spotIn g i
+fitting-spot (refused reason place) few i = spot-at [] zero-le i
+fitting-spot (got job end) few i = spot-at (job .entries) (omega arith) i

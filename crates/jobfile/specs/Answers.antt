@@ -131,6 +131,10 @@ Few limit (got job end) = length (job .entries) ≤ limit
 abbrev pub Within : ℕ → List ℕ → List ℕ → Type 0
 Within end starts lens = (i : ℕ) → getD starts i 0 + getD lens i 0 ≤ end
 
+-- element i of the columns of names: 0 and 0 behind their end
+abbrev pub spotOf : List ℕ → List ℕ → ℕ → Spot
+spotOf starts lens i = record { start = getD starts i 0; len = getD lens i 0 }
+
 -- where the name of record i stands: nowhere for a refused file, an absent number or no name
 abbrev pub spotIn : Got (Job Spot) → ℕ → Spot
 spotIn (refused reason place) i = record { start = 0; len = 0 }

@@ -2,14 +2,18 @@
 //
 // The formats stand in specs/Layout.antt, as tables, and what reading gives in specs/Read.antt.
 ghost use mathlib.Core.Path.{_≡_};
+ghost use Prim.Native.Nat.{_+_, _≤_};
+ghost use lib.Dec.{eqb};
+ghost use lib.ListN.{length, getD};
+ghost use Rattle.reading.specs.Got.{refused};
 ghost use Rattle.reading.specs.Items.{spots};
-ghost use Rattle.jobfile.specs.Read.{read, choices, fittings};
+ghost use Rattle.jobfile.specs.Read.{read, choices, fittings, either};
+ghost use Rattle.jobfile.specs.Answers.{choiceOf, fittingOf, spotOf, spotIn, ChoiceBounds, FittingBounds};
 
 pub mod entry;
 
-ghost use Rattle.reading.specs.Got.{refused};
-ghost use Rattle.jobfile.specs.Answers.{choiceOf, fittingOf, ChoiceBounds, FittingBounds};
 use reading::Refusal;
+use reading::Spot;
 use reading::item;
 use reading::item::Cursor;
 
@@ -164,4 +168,44 @@ pub fn read_fitting(file: &[u8]) -> ReadFitting
             }
         }
     }
+}
+
+// Whether the kind of a file is that of a fitting.
+pub fn is_fitting(file: &[u8]) -> bool
+    ensures { λ r. ⌜ r ≡ eqb (getD (now (file .entry)) 0 0) 70 ⌝ }
+{
+    if file.len() == 0 {
+        return false;
+    }
+    file[0] == 70
+}
+
+// An element of the columns of names: none behind their end.
+fn spot_at(starts: [usize; 64], lens: [usize; 64], number: usize) -> Spot
+    ensures { λ r. ⌜ r ≡ spotOf starts lens number ⌝ }
+{
+    if 64 <= number {
+        return Spot { start: 0, len: 0 };
+    }
+    Spot {
+        start: starts[number],
+        len: lens[number],
+    }
+}
+
+// Where the name of article or step `number` stands, in a file of either kind.
+pub fn spot(file: &[u8], number: usize) -> Spot
+    ensures { λ r. ⌜ r ≡ spotIn (read spots either (now (file .entry))) number ⌝ }
+    ensures { λ r. ⌜ r .start + r .len ≤ length (now (file .entry)) ⌝ }
+{
+    if is_fitting(file) {
+        let read = read_fitting(file);
+        let starts = read.starts;
+        let lens = read.lens;
+        return spot_at(starts, lens, number);
+    }
+    let read = read_choice(file);
+    let starts = read.starts;
+    let lens = read.lens;
+    spot_at(starts, lens, number)
 }
