@@ -7,3 +7,4 @@ pub mod Theorems
 pub mod StepLaws
 pub mod RowLaws
 pub mod ReadLaws
+pub mod NamingLaws

@@ -109,7 +109,7 @@ module _ (f : List ℕ) (n w order : ℕ) (rows : Rows) (a b c d : Cursor)
             ∙ ap (λ (l : List ℕ). record { verdict = Verdict.Accepted; articles = n; «wish_count» = w; order = order; wishes = padded 64 (wishes choiceJob); clashes = padded 64 (clashes choiceJob); starts = l; lens = rows .lens }) starts
             ∙ ap (λ (l : List ℕ). record { verdict = Verdict.Accepted; articles = n; «wish_count» = w; order = order; wishes = padded 64 (wishes choiceJob); clashes = padded 64 (clashes choiceJob); starts = padded 64 (startsOf (choiceJob .entries)); lens = l }) lens
             ∙ ap choiceOf told,
-        (ln, lw, λ i. tidy-within false (length f) _ _ _ (ok .tidy i), subst (Few 64) told (omega (arith, list-length n from))),
+        (ln, lw, λ i. tidy-within false (length f) _ _ _ (ok .tidy i), subst (Few 64) told (list-length n from, ln)),
       )
 
 -- ---- a fitting file
@@ -157,7 +157,7 @@ module _ (f : List ℕ) (n m rounds begin goal : ℕ) (rows : Rows) (a b c d e�
             ∙ ap (λ (l : List ℕ). record { verdict = Verdict.Accepted; steps = n; facts = m; horizon = rounds; start = begin; goal = goal; needs = padded 64 (needs fittingJob); gives = padded 64 (gives fittingJob); takes = padded 64 (takes fittingJob); starts = l; lens = rows .lens }) starts
             ∙ ap (λ (l : List ℕ). record { verdict = Verdict.Accepted; steps = n; facts = m; horizon = rounds; start = begin; goal = goal; needs = padded 64 (needs fittingJob); gives = padded 64 (gives fittingJob); takes = padded 64 (takes fittingJob); starts = padded 64 (startsOf (fittingJob .entries)); lens = l }) lens
             ∙ ap fittingOf told,
-        (ln, lm, lr, λ i. tidy-within true (length f) 0 _ _ (ok .tidy i), subst (Few 32) told (omega (arith, list-length n from))),
+        (ln, lm, lr, λ i. tidy-within true (length f) 0 _ _ (ok .tidy i), subst (Few 32) told (list-length n from, ln)),
       )
 
 -- ---- names of either kind
@@ -218,8 +218,8 @@ spot-at entries few i = go (decLt i 64)
 
 pub choice-spot : (g : Got (Job Spot)) → Few 64 g → (i : ℕ) → spotOf (choiceOf g .starts) (choiceOf g .lens) i ≡ spotIn g i
 choice-spot (refused reason place) few i = spot-at [] zero-le i
-choice-spot (got job end) few i = spot-at (job .entries) few i
+choice-spot (got job end) few i = spot-at (job .entries) (omega (arith, few .0, few .1)) i
 
 pub fitting-spot : (g : Got (Job Spot)) → Few 32 g → (i : ℕ) → spotOf (fittingOf g .starts) (fittingOf g .lens) i ≡ spotIn g i
 fitting-spot (refused reason place) few i = spot-at [] zero-le i
-fitting-spot (got job end) few i = spot-at (job .entries) (omega arith) i
+fitting-spot (got job end) few i = spot-at (job .entries) (omega (arith, few .0, few .1)) i

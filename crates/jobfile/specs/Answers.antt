@@ -122,10 +122,10 @@ fittingOf (got job end) = record {
   lens = padded 64 (lensOf (job .entries));
 }
 
--- at most so many records
+-- as many records as are counted, and no more than a limit
 abbrev pub Few : ℕ → Got (Job Spot) → Type 0
 Few limit (refused reason place) = Unit {0}
-Few limit (got job end) = length (job .entries) ≤ limit
+Few limit (got job end) = (length (job .entries) ≡ size job) × (size job ≤ limit)
 
 -- every name stands within a file of this length
 abbrev pub Within : ℕ → List ℕ → List ℕ → Type 0
@@ -139,6 +139,11 @@ spotOf starts lens i = record { start = getD starts i 0; len = getD lens i 0 }
 abbrev pub spotIn : Got (Job Spot) → ℕ → Spot
 spotIn (refused reason place) i = record { start = 0; len = 0 }
 spotIn (got job end) i = getD (namesOf (job .entries)) i (record { start = 0; len = 0 })
+
+-- the name of record i: empty for a refused file, an absent number or no name
+abbrev pub nameIn : Got (Job (List ℕ)) → ℕ → List ℕ
+nameIn (refused reason place) i = []
+nameIn (got job end) i = getD (namesOf (job .entries)) i []
 
 -- what a reader keeps to beside its equation: the limits, and names within the file
 abbrev pub ChoiceBounds : List ℕ → ReadChoice → Type 0

@@ -1,10 +1,6 @@
 -- `jobfile::spot` meets its contract.
 use borrow.Author.Needs.{needs}
-use mathlib.Core.Path.{_≡_, sym, ap, _∙_}
-use mathlib.Core.Bool.{true, false}
-use Prim.Native.Nat.{ℕ, _+_, _≤_}
-use lib.ListN.{length}
-use Rattle.reading.specs.declared.Spot.{Spot}
+use mathlib.Core.Path.{sym, ap, _∙_}
 use Rattle.reading.specs.Items.{spots}
 use Rattle.jobfile.specs.declared.ReadChoice.{ReadChoice}
 use Rattle.jobfile.specs.declared.ReadFitting.{ReadFitting}
@@ -28,8 +24,7 @@ returns c =
     let a = c .before .before .before .before .before .before .before .args in
     let f = a .file .now in
     let found = c .before .before .before .read-fitting in
-    let e = either-fitting spots f (sym (c .before .before .before .before .before .is-fitting .ensures) ∙ c .before .before .before .before .if1 .taken) in
-    (
+    let e = either-fitting spots f (sym (c .before .before .before .before .before .is-fitting .ensures) ∙ c .before .before .before .before .if1 .taken) in (
       c .spot-at .ensures ∙ ap (λ (x : ReadFitting). spotOf (x .starts) (x .lens) (a .number)) (found .ensures .0) ∙ fitting-spot (read spots fittings f) (found .ensures .1 .4) (a .number) ∙ ap (λ g. spotIn g (a .number)) (sym e),
       rw (c .spot-at .ensures) (found .ensures .1 .3 (a .number)),
     )
@@ -45,8 +40,7 @@ returns-2 c =
     let a = c .before .before .before .before .before .before .before .args in
     let f = a .file .now in
     let found = c .before .before .before .read-choice in
-    let e = either-choice spots f (sym (c .before .before .before .before .before .is-fitting .ensures) ∙ c .before .before .before .before .if1 .left) in
-    (
+    let e = either-choice spots f (sym (c .before .before .before .before .before .is-fitting .ensures) ∙ c .before .before .before .before .if1 .left) in (
       c .spot-at2 .ensures ∙ ap (λ (x : ReadChoice). spotOf (x .starts) (x .lens) (a .number)) (found .ensures .0) ∙ choice-spot (read spots choices f) (found .ensures .1 .3) (a .number) ∙ ap (λ g. spotIn g (a .number)) (sym e),
       rw (c .spot-at2 .ensures) (found .ensures .1 .2 (a .number)),
     )
