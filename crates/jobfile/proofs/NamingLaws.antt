@@ -88,7 +88,7 @@ module _ (f : List ℕ) where
       ap (λ r. andThen r λ job end. refuse (ltb end (length f)) TrailingBytes end (got job (length f))) (body-same (layoutOf kind) a)
       ∙ map-then jobBy jobBy (bodyAt spots (layoutOf kind) f a) _ _ (λ job end. refuse-map jobBy (ltb end (length f)) TrailingBytes end (got job (length f))))
 
-  names-same : (entries : List (Entry Spot)) (i : ℕ) → getD (namesOf (map entryBy entries)) i [] ≡ bytesAt f (getD (namesOf entries) i (spots .absent))
+  pub names-same : (entries : List (Entry Spot)) (i : ℕ) → getD (namesOf (map entryBy entries)) i [] ≡ bytesAt f (getD (namesOf entries) i (spots .absent))
   names-same [] i = refl
   names-same (e ∷ es) zero = refl
   names-same (e ∷ es) (suc i) = names-same es i

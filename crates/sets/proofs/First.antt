@@ -2,9 +2,10 @@
 use mathlib.Core.Path.{_≡_, refl, sym, ap, _∙_}
 use mathlib.Core.Bool.{Bool, true, false, true≢false}
 use mathlib.Core.Option.{Option, none, some}
-use Prim.Native.Nat.{ℕ, zero, suc, _-_, _≤_, _<_}
+use Prim.Native.Nat.{ℕ, zero, suc, _+_, _-_, _≤_, _<_}
 use native.Mathlib.Nat.{le-refl, le-antisymm}
 use native.Mathlib.Decide.{decLe}
+use native.Mathlib.Numerals.{add-one}
 use native.Mathlib.Omega.{arith}
 use Rattle.sets.specs.First.{firstFrom, LeastFrom, Smallest}
 
@@ -23,6 +24,40 @@ smallest-unique P floor none none a b = refl
 pub smallest-same : (P Q : ℕ → Type 0) (floor : ℕ) → ((y : ℕ) → P y → Q y) → ((y : ℕ) → Q y → P y) → (a : Option ℕ) → Smallest P floor a → Smallest Q floor a
 smallest-same P Q floor to back (some x) a = record { holds = to x (a .holds); above = a .above; least = λ y q l. a .least y (back y q) l }
 smallest-same P Q floor to back none a = λ y q l. a y (back y q) l
+
+-- ---- one number after the other
+
+module _ (test : ℕ → Bool) where
+  pub first-hit : (n x : ℕ) → test x ≡ true → firstFrom test (suc n) x ≡ some x
+  unfolding firstFrom
+  first-hit n x e = ap (λ (t : Bool). elim t as (λ t. Option ℕ) [ true ↦ some x | false ↦ firstFrom test n (suc x) ]) e
+
+  pub first-miss : (n x : ℕ) → test x ≡ false → firstFrom test (suc n) x ≡ firstFrom test n (suc x)
+  unfolding firstFrom
+  first-miss n x e = ap (λ (t : Bool). elim t as (λ t. Option ℕ) [ true ↦ some x | false ↦ firstFrom test n (suc x) ]) e
+
+  -- the turns of a loop that counts i up to n
+  pub first-here : (n i : ℕ) → i < n → test i ≡ true → some i ≡ firstFrom test (n - i) i
+  first-here n i l e = let k : n - i ≡ suc (n - (i + 1)) = omega arith in sym (ap (λ (m : ℕ). firstFrom test m i) k ∙ first-hit (n - (i + 1)) i e)
+
+  pub first-next : (n i : ℕ) → i < n → test i ≡ false → firstFrom test (n - i) i ≡ firstFrom test (n - (i + 1)) (i + 1)
+  first-next n i l e =
+      let k : n - i ≡ suc (n - (i + 1)) = omega arith in
+      ap (λ (m : ℕ). firstFrom test m i) k ∙ first-miss (n - (i + 1)) i e ∙ ap (firstFrom test (n - (i + 1))) (sym (add-one i))
+
+  pub first-nowhere : (n i : ℕ) → n ≤ i → none ≡ firstFrom test (n - i) i
+  unfolding firstFrom
+  first-nowhere n i l = let k : n - i ≡ 0 = omega arith in ap (λ (m : ℕ). firstFrom test m i) (sym k)
+
+-- tests that agree find the same
+pub first-cong : (test other : ℕ → Bool) → ((i : ℕ) → test i ≡ other i) → (n x : ℕ) → firstFrom test n x ≡ firstFrom other n x
+unfolding firstFrom
+first-cong test other h zero x = refl
+first-cong test other h (suc n) x = go (other x) refl (first-cong test other h n (suc x))
+  where
+    go : (b : Bool) → other x ≡ b → firstFrom test n (suc x) ≡ firstFrom other n (suc x) → firstFrom test (suc n) x ≡ firstFrom other (suc n) x
+    go true e r = first-hit test n x (h x ∙ e) ∙ sym (first-hit other n x e)
+    go false e r = first-miss test n x (h x ∙ e) ∙ r ∙ sym (first-miss other n x e)
 
 -- ---- the first is the smallest
 

@@ -1,0 +1,3 @@
+-- The laws behind the open calls.
+pub mod SameLaws
+pub mod CallLaws

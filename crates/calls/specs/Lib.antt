@@ -1,0 +1,4 @@
+-- What the open calls answer, in the order of docs/RULES.md.
+pub mod Same
+pub mod Find
+pub mod Compare
