@@ -13,8 +13,8 @@ use Rattle.reading.specs.Got.{Got, got, refused}
 use Rattle.jobfile.specs.declared.Verdict.{Verdict}
 use Rattle.jobfile.specs.declared.Verdict.the-variants as Verdict
 use Rattle.jobfile.specs.declared.ReadChoice.{ReadChoice}
-use Rattle.jobfile.specs.Job.{Entry, Job, column, size, wishCount, order, wishes, clashes}
-use Rattle.jobfile.specs.Answers.{choiceOf, fittingOf, padded, spotOf, spotIn, Few}
+use Rattle.jobfile.specs.Job.{Entry, Job, column, size, order, wishes, clashes}
+use Rattle.jobfile.specs.Answers.{choiceOf, fittingOf, spotOf, spotIn, Few}
 use Rattle.jobfile.proofs.NamingLaws.{mapGot, bytesAt, entryBy, jobBy, names-same}
 use Rattle.calls.specs.declared.Found.{Found}
 use Rattle.calls.specs.declared.Found.the-variants as Found

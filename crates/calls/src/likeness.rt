@@ -19,6 +19,12 @@ fn same_words(a: [u64; 64], b: [u64; 64]) -> bool
     true
 }
 
+fn same_order(a: ReadChoice, b: ReadChoice) -> bool
+    ensures { λ r. ⌜ r ≡ eqb (a .order) (b .order) ⌝ }
+{
+    a.order == b.order
+}
+
 // Whether two choices are alike.
 pub fn alike(a: ReadChoice, b: ReadChoice) -> bool
     ensures { λ r. ⌜ r ≡ eqb (a .articles) (b .articles) && (eqb (a .«wish_count») (b .«wish_count») && (eqb (a .order) (b .order) && (sameList (a .wishes) (b .wishes) && sameList (a .clashes) (b .clashes)))) ⌝ }
@@ -29,7 +35,7 @@ pub fn alike(a: ReadChoice, b: ReadChoice) -> bool
     if a.wish_count != b.wish_count {
         return false;
     }
-    if a.order != b.order {
+    if !same_order(a, b) {
         return false;
     }
     let first = a.wishes;

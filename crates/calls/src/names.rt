@@ -1,7 +1,7 @@
 // Names of a file that was read.
 ghost use mathlib.Core.Path.{_≡_};
 ghost use mathlib.Core.Option.{none};
-ghost use Prim.Native.Nat.{ℕ, _+_, _≤_};
+ghost use Prim.Native.Nat.{_+_, _≤_};
 ghost use lib.ListN.{length, getD, take, drop};
 ghost use Rattle.jobfile.specs.Answers.{Within};
 ghost use Rattle.calls.specs.Find.{foundBy, searchOf};
@@ -46,14 +46,15 @@ pub fn search(file: &[u8], starts: [usize; 64], lens: [usize; 64], n: usize, nam
     if name.len() == 0 {
         return missing();
     }
-    let mut i: usize = 0;
-    while i < n {
+    let mut left = n;
+    while 0 < left {
+        let i = n - left;
         let a = starts[i];
         let e = a + lens[i];
         if same_name(&file[a..e], name) {
             return Found::At(i);
         }
-        i += 1;
+        left -= 1;
     }
     missing()
 }

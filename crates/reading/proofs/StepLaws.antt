@@ -4,6 +4,7 @@ use mathlib.Core.Bool.{Bool, true, false, not, cond}
 use mathlib.Core.List.{List, [], _∷_}
 use Prim.Native.Nat.{ℕ, suc, _+_, _-_, _*_, _/_, _^_, _≤_, _<_}
 use native.Mathlib.Nat.{le-div-iff-mul-le, one-mul, div-eq-of-lt, pow-suc, pow-le-pow-right}
+use native.Mathlib.Decide.{decLe}
 use native.Mathlib.Omega.{arith}
 use lib.Dec.{leb, ltb, eqb}
 use lib.ListN.{length, getD}
@@ -137,14 +138,22 @@ pub marked-by : {A : Type 0} (from : Cursor) (a : A) (item : Reader A) (f : List
     → x ≡ readFrom from (optional (eqb b 1) a item f) → x ≡ readFrom from (optional (member m k) a item f)
 marked-by from a item f m k e h = h ∙ ap (λ (t : ℕ). readFrom from (optional (eqb t 1) a item f)) e
 
-module _ (f : List ℕ) (at bytes : ℕ) where
-  pub number-short : length f < at + bytes → refused EndsEarly (length f) ≡ numberAt bytes f at
-  unfolding numberAt
-  number-short h = rw (lt-ltb (length f) (at + bytes) h)
+-- a sum compared without making it
+pub due : (end at bytes : ℕ) → at ≤ end → ltb (end - at) bytes ≡ ltb end (at + bytes)
+due end at bytes l = go (decLe bytes (end - at))
+  where
+    go : Dec (bytes ≤ end - at) → ltb (end - at) bytes ≡ ltb end (at + bytes)
+    go (yes h) = le-ltb (end - at) bytes h ∙ sym (le-ltb end (at + bytes) (omega arith))
+    go (no h) = lt-ltb (end - at) bytes (omega arith) ∙ sym (lt-ltb end (at + bytes) (omega arith))
 
-  pub number-found : {v : ℕ} → at + bytes ≤ length f → v ≡ valueAt bytes f at → got v (at + bytes) ≡ numberAt bytes f at
+module _ (f : List ℕ) (at bytes : ℕ) where
+  pub number-short : ltb (length f) (at + bytes) ≡ true → refused EndsEarly (length f) ≡ numberAt bytes f at
   unfolding numberAt
-  number-found h e = rw (le-ltb (length f) (at + bytes) h, e)
+  number-short h = rw h
+
+  pub number-found : {v : ℕ} → ltb (length f) (at + bytes) ≡ false → v ≡ valueAt bytes f at → got v (at + bytes) ≡ numberAt bytes f at
+  unfolding numberAt
+  number-found h e = rw (h, e)
 
 -- a name, once its length is known
 module _ (limit : ℕ) (f : List ℕ) (from : Cursor) (item : Item) (e : itemOf item ≡ readFrom from (lengthAt limit f)) where
@@ -159,13 +168,13 @@ module _ (limit : ℕ) (f : List ℕ) (from : Cursor) (item : Item) (e : itemOf 
   pub name-refused : {r : Refusal} → item .next ≡ Cursor.Refused r → gotBy (spots .absent) (item .next) ≡ readFrom from (nameAt spots limit f)
   name-refused q = from-refused (spots .absent) (item .next) letters q ∙ sym behind-length
 
-  pub name-short : {start : ℕ} → item .next ≡ Cursor.At start → length f < start + item .value → refused EndsEarly (length f) ≡ readFrom from (nameAt spots limit f)
+  pub name-short : {start : ℕ} → item .next ≡ Cursor.At start → ltb (length f) (start + item .value) ≡ true → refused EndsEarly (length f) ≡ readFrom from (nameAt spots limit f)
   unfolding letters
-  name-short {start} q h = from-at (item .next) letters q (rw (lt-ltb (length f) (start + item .value) h)) ∙ sym behind-length
+  name-short {start} q h = from-at (item .next) letters q (rw h) ∙ sym behind-length
 
-  pub name-found : {start : ℕ} → item .next ≡ Cursor.At start → start + item .value ≤ length f → got (record { start = start; len = item .value }) (start + item .value) ≡ readFrom from (nameAt spots limit f)
+  pub name-found : {start : ℕ} → item .next ≡ Cursor.At start → ltb (length f) (start + item .value) ≡ false → got (record { start = start; len = item .value }) (start + item .value) ≡ readFrom from (nameAt spots limit f)
   unfolding letters
-  name-found {start} q h = from-at (item .next) letters q (rw (le-ltb (length f) (start + item .value) h)) ∙ sym behind-length
+  name-found {start} q h = from-at (item .next) letters q (rw h) ∙ sym behind-length
 
 -- the loop of a number goes from its highest byte down: v is what the bytes from i on spell
 module _ (f : List ℕ) (at bytes i v : ℕ) where

@@ -4,7 +4,7 @@
 ghost use mathlib.Core.Path.{_≡_};
 ghost use mathlib.Core.Bool.{cond};
 ghost use Prim.Native.Nat.{_+_, _≤_, _<_, _^_};
-ghost use lib.Dec.{leb, eqb};
+ghost use lib.Dec.{leb, ltb, eqb};
 ghost use lib.ListN.{length};
 ghost use Rattle.reading.specs.Got.{got, refuse, andThen, optional};
 ghost use Rattle.reading.specs.Items.{kindAt, valueAt, numberAt, countAt, mapAt, setAt, fieldAt, lengthAt, nameAt, spots};
@@ -86,6 +86,16 @@ fn value(file: &[u8], at: usize, bytes: usize) -> u64
     v
 }
 
+// Whether a file ends before the bytes that are due at a position. No sum is made: it could wrap.
+fn ends_early(end: usize, at: usize, due: usize) -> bool
+    ensures { λ r. ⌜ r ≡ ltb end (at + due) ⌝ }
+{
+    if end < at {
+        return true;
+    }
+    end - at < due
+}
+
 // A number of so many bytes.
 fn number(file: &[u8], from: Cursor, bytes: usize) -> Item
     requires { ⌜ bytes ≤ 8 ⌝ }
@@ -98,13 +108,7 @@ fn number(file: &[u8], from: Cursor, bytes: usize) -> Item
         };
     };
     let end = file.len();
-    if end < at {
-        return Item {
-            value: 0,
-            next: stop(from, Reason::EndsEarly, end),
-        };
-    }
-    if end - at < bytes {
+    if ends_early(end, at, bytes) {
         return Item {
             value: 0,
             next: stop(from, Reason::EndsEarly, end),
@@ -221,13 +225,7 @@ pub fn name(file: &[u8], from: Cursor, marked: bool, limit: u64) -> Named
         return Named { spot: none, next };
     };
     let end = file.len();
-    if end < start {
-        return Named {
-            spot: none,
-            next: stop(next, Reason::EndsEarly, end),
-        };
-    }
-    if end - start < len {
+    if ends_early(end, start, len) {
         return Named {
             spot: none,
             next: stop(next, Reason::EndsEarly, end),

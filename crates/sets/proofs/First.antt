@@ -36,18 +36,18 @@ module _ (test : ℕ → Bool) where
   unfolding firstFrom
   first-miss n x e = ap (λ (t : Bool). elim t as (λ t. Option ℕ) [ true ↦ some x | false ↦ firstFrom test n (suc x) ]) e
 
-  -- the turns of a loop that counts i up to n
-  pub first-here : (n i : ℕ) → i < n → test i ≡ true → some i ≡ firstFrom test (n - i) i
-  first-here n i l e = let k : n - i ≡ suc (n - (i + 1)) = omega arith in sym (ap (λ (m : ℕ). firstFrom test m i) k ∙ first-hit (n - (i + 1)) i e)
+  -- the turns of a loop that has so many numbers left, from x on
+  pub first-here : (left x : ℕ) → 0 < left → test x ≡ true → some x ≡ firstFrom test left x
+  first-here left x l e = let k : left ≡ suc (left - 1) = omega arith in sym (ap (λ (m : ℕ). firstFrom test m x) k ∙ first-hit (left - 1) x e)
 
-  pub first-next : (n i : ℕ) → i < n → test i ≡ false → firstFrom test (n - i) i ≡ firstFrom test (n - (i + 1)) (i + 1)
-  first-next n i l e =
-      let k : n - i ≡ suc (n - (i + 1)) = omega arith in
-      ap (λ (m : ℕ). firstFrom test m i) k ∙ first-miss (n - (i + 1)) i e ∙ ap (firstFrom test (n - (i + 1))) (sym (add-one i))
+  pub first-next : (left x : ℕ) → 0 < left → test x ≡ false → firstFrom test left x ≡ firstFrom test (left - 1) (x + 1)
+  first-next left x l e =
+      let k : left ≡ suc (left - 1) = omega arith in
+      ap (λ (m : ℕ). firstFrom test m x) k ∙ first-miss (left - 1) x e ∙ ap (firstFrom test (left - 1)) (sym (add-one x))
 
-  pub first-nowhere : (n i : ℕ) → n ≤ i → none ≡ firstFrom test (n - i) i
+  pub first-nowhere : (left x : ℕ) → left ≤ 0 → none ≡ firstFrom test left x
   unfolding firstFrom
-  first-nowhere n i l = let k : n - i ≡ 0 = omega arith in ap (λ (m : ℕ). firstFrom test m i) (sym k)
+  first-nowhere left x l = let k : 0 ≡ left = omega arith in ap (λ (m : ℕ). firstFrom test m x) k
 
 -- tests that agree find the same
 pub first-cong : (test other : ℕ → Bool) → ((i : ℕ) → test i ≡ other i) → (n x : ℕ) → firstFrom test n x ≡ firstFrom other n x

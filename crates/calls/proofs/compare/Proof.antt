@@ -6,7 +6,6 @@ use Prim.Native.Nat.{ℕ}
 use Rattle.reading.specs.Items.{spots}
 use Rattle.jobfile.specs.Read.{read, readJob, choices}
 use Rattle.jobfile.proofs.NamingLaws.{mapGot, jobBy, read-same}
-use Rattle.calls.specs.declared.Compared.{Compared}
 use Rattle.calls.specs.Compare.{comparedBy, compareOf}
 use Rattle.calls.proofs.CallLaws.{choice-taken, choice-down, compare-first, compare-second, compare-is}
 use Rattle.calls.proofs.compare.Statement.{statement}

@@ -4,7 +4,6 @@ use mathlib.Core.Path.{_≡_, sym, ap, _∙_}
 use Prim.Native.Nat.{ℕ, _+_, _-_}
 use native.Mathlib.Omega.{arith}
 use lib.ListN.{take, drop}
-use Rattle.reading.specs.declared.Spot.{Spot}
 use Rattle.jobfile.specs.Read.{either}
 use Rattle.jobfile.proofs.NamingLaws.{bytesAt, name-at-spot}
 use Rattle.calls.proofs.name.Statement.{statement}

@@ -1,6 +1,7 @@
+-- `calls::names::search` meets its contract. The invariant: the numbers before those that are left do not have the name.
 use borrow.Author.Needs.{needs}
-use mathlib.Core.Path.{_≡_, refl, sym, ap, _∙_}
-use mathlib.Core.Bool.{Bool, true, false}
+use mathlib.Core.Path.{_≡_, sym, ap, ap₂, _∙_}
+use mathlib.Core.Bool.{Bool}
 use mathlib.Core.List.{List}
 use Prim.Native.Nat.{ℕ, _+_, _-_, _≤_, _<_}
 use native.Mathlib.Omega.{arith}
@@ -12,8 +13,6 @@ use Rattle.calls.specs.Find.{foundBy}
 use Rattle.calls.proofs.SameLaws.{search-some, search-none}
 use Rattle.calls.proofs.names.search.Statement.{statement}
 use Rattle.calls.proofs.names.search.Tie as tie
-
--- `calls::names::search` meets its contract. The invariant: the numbers before i do not have the name.
 
 abbrev nameOf : List ℕ → List ℕ → List ℕ → ℕ → List ℕ
 nameOf file starts lens i = take (getD lens i 0) (drop (getD starts i 0) file)
@@ -28,10 +27,10 @@ seen file starts lens name i e =
     ap (λ (m : ℕ). sameName (take m (drop (getD starts i 0) file)) name) k ∙ sym e
 
 abbrev Inv-loop : tie.InvT-loop
-Inv-loop file n name starts lens i₀ i = (i ≤ n) × (0 < length name) × (firstFrom (hasName file starts lens name) (n - i) i ≡ firstFrom (hasName file starts lens name) n 0)
+Inv-loop file n name starts lens left₀ left = (left ≤ n) × (0 < length name) × (firstFrom (hasName file starts lens name) left (n - left) ≡ firstFrom (hasName file starts lens name) n 0)
 
 abbrev μ-loop : tie.MeasureT-loop
-μ-loop file n name starts lens i₀ i = n - i
+μ-loop file n name starts lens left₀ left = left
 
 missing-requires : tie.Need-missing-requires Inv-loop μ-loop
 missing-requires c κs = search needs
@@ -40,7 +39,10 @@ returns : tie.Need-returns Inv-loop μ-loop
 returns c = c .missing .ensures ∙ search-none (c .before .before .before .before .args .name .now) (c .before .before .before .before .args .n) (nameOf (c .before .before .before .before .args .file .now) (c .before .before .before .before .args .t2) (c .before .before .before .before .args .t3)) (omega (arith, c .before .if1 .taken))
 
 loop-holds : tie.Need-loop-holds Inv-loop μ-loop
-loop-holds c = let k : c .before .before .before .args .n - 0 ≡ c .before .before .before .args .n = omega arith in (omega arith, omega (arith, c .if1 .left), ap (λ (m : ℕ). firstFrom (hasName (c .before .before .before .args .file .now) (c .before .before .before .args .t2) (c .before .before .before .args .t3) (c .before .before .before .args .name .now)) m 0) k)
+loop-holds c = let k : c .before .before .before .args .n - c .before .before .before .args .n ≡ 0 = omega arith in (omega arith, omega (arith, c .if1 .left), ap (firstFrom (hasName (c .before .before .before .args .file .now) (c .before .before .before .args .t2) (c .before .before .before .args .t3) (c .before .before .before .args .name .now)) (c .before .before .before .args .n)) k)
+
+sub-i : tie.Need-sub-i Inv-loop μ-loop
+sub-i c = search needs
 
 mul-a : tie.Need-mul-a Inv-loop μ-loop
 mul-a c = search needs
@@ -55,7 +57,7 @@ array-read-e : tie.Need-array-read-e Inv-loop μ-loop
 array-read-e c = search needs
 
 add-e : tie.Need-add-e Inv-loop μ-loop
-add-e c = let h = c .before .before .before .before .before .pre .1 (c .before .loop .i) in search needs
+add-e c = let h = c .before .before .before .before .before .pre .1 (c .before .before .before .before .before .args .n - c .before .loop .left) in search needs
 
 sub-same-name : tie.Need-sub-same-name Inv-loop μ-loop
 sub-same-name c = search needs
@@ -64,7 +66,7 @@ part-same-name-start : tie.Need-part-same-name-start Inv-loop μ-loop
 part-same-name-start c = search needs
 
 part-same-name-end : tie.Need-part-same-name-end Inv-loop μ-loop
-part-same-name-end c = let h = c .before .before .before .before .before .pre .1 (c .before .loop .i) in search needs
+part-same-name-end c = let h = c .before .before .before .before .before .pre .1 (c .before .before .before .before .before .args .n - c .before .loop .left) in search needs
 
 same-name-requires : tie.Need-same-name-requires Inv-loop μ-loop
 same-name-requires c κs = search needs
@@ -73,12 +75,13 @@ returns-2 : tie.Need-returns-2 Inv-loop μ-loop
 returns-2 c =
     let a = c .before .before .before .before .before .before .before .before .args in
     let l = c .before .before .before .before .loop in
+    let i = a .n - l .left in
     let test = hasName (a .file .now) (a .t2) (a .t3) (a .name .now) in
-    ap foundBy (first-here test (a .n) (l .i) (c .before .before .before .loop-test .taken) (seen (a .file .now) (a .t2) (a .t3) (a .name .now) (l .i) (c .before .same-name .ensures) ∙ c .if2 .taken) ∙ l .inv .2)
+    ap foundBy (first-here test (l .left) i (c .before .before .before .loop-test .taken) (seen (a .file .now) (a .t2) (a .t3) (a .name .now) i (c .before .same-name .ensures) ∙ c .if2 .taken) ∙ l .inv .2)
     ∙ search-some (a .name .now) (a .n) (nameOf (a .file .now) (a .t2) (a .t3)) (l .inv .1)
 
-add-i : tie.Need-add-i Inv-loop μ-loop
-add-i c = search needs
+sub-left : tie.Need-sub-left Inv-loop μ-loop
+sub-left c = search needs
 
 loop-less : tie.Need-loop-less Inv-loop μ-loop
 loop-less c = search needs
@@ -87,8 +90,10 @@ loop-again : tie.Need-loop-again Inv-loop μ-loop
 loop-again c =
     let a = c .before .before .before .before .before .before .before .before .args in
     let l = c .before .before .before .before .loop in
+    let i = a .n - l .left in
     let test = hasName (a .file .now) (a .t2) (a .t3) (a .name .now) in
-    (omega (arith, c .before .before .before .loop-test .taken), l .inv .1, sym (first-next test (a .n) (l .i) (c .before .before .before .loop-test .taken) (seen (a .file .now) (a .t2) (a .t3) (a .name .now) (l .i) (c .before .same-name .ensures) ∙ c .if2 .left)) ∙ l .inv .2)
+    let k : a .n - (l .left - 1) ≡ i + 1 = omega (arith, c .before .before .before .loop-test .taken) in
+    (omega arith, l .inv .1, ap (firstFrom test (l .left - 1)) k ∙ sym (first-next test (l .left) i (c .before .before .before .loop-test .taken) (seen (a .file .now) (a .t2) (a .t3) (a .name .now) i (c .before .same-name .ensures) ∙ c .if2 .left)) ∙ l .inv .2)
 
 missing-requires-2 : tie.Need-missing-requires-2 Inv-loop μ-loop
 missing-requires-2 c κs = search needs
@@ -98,7 +103,7 @@ returns-3 c =
     let a = c .before .before .before .before .before .before .args in
     let l = c .before .before .loop in
     let test = hasName (a .file .now) (a .t2) (a .t3) (a .name .now) in
-    c .missing2 .ensures ∙ ap foundBy (first-nowhere test (a .n) (l .i) (omega (arith, c .before .loop-test .left)) ∙ l .inv .2)
+    c .missing2 .ensures ∙ ap foundBy (first-nowhere test (l .left) (a .n - l .left) (omega (arith, c .before .loop-test .left)) ∙ l .inv .2)
     ∙ search-some (a .name .now) (a .n) (nameOf (a .file .now) (a .t2) (a .t3)) (l .inv .1)
 
 pub search-spec : {M : Type 1} → statement M
@@ -110,6 +115,7 @@ search-spec =
     missing-requires
     returns
     loop-holds
+    sub-i
     mul-a
     array-read-a
     mul-e
@@ -120,7 +126,7 @@ search-spec =
     part-same-name-end
     same-name-requires
     returns-2
-    add-i
+    sub-left
     loop-less
     loop-again
     missing-requires-2

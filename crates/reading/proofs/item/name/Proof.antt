@@ -1,10 +1,10 @@
 -- `reading::item::name` meets its contract.
 use borrow.Author.Needs.{needs}
-use mathlib.Core.Path.{ap, _∙_}
-use Prim.Native.Nat.{_+_, _≤_}
+use mathlib.Core.Path.{sym, ap, _∙_}
+use Prim.Native.Nat.{_+_}
 use native.Mathlib.Omega.{arith}
 use lib.ListN.{length}
-use borrow.Author.Tests.{not-true, not-false}
+use borrow.Author.Tests.{not-true, not-false, ltb-false}
 use Rattle.reading.specs.Items.{nameAt, spots}
 use Rattle.reading.specs.Cursors.{gotBy}
 use Rattle.reading.proofs.StepLaws.{from-absent, from-marked, name-refused, name-short, name-found}
@@ -34,44 +34,34 @@ returns-2 c =
       omega arith,
     )
 
+ends-early-requires : tie.Need-ends-early-requires
+ends-early-requires c κs = search needs
+
 stop-requires : tie.Need-stop-requires
 stop-requires c κs = search needs
 
 returns-3 : tie.Need-returns-3
 returns-3 c =
-    let a = c .before .before .before .before .before .before .before .before .args in
-    let item = c .before .before .before .before .before .name-length in
-    let s = c .before .before .before .next .given in (
-      from-marked (spots .absent) (a .from) (nameAt spots (a .limit)) (a .file .now) (a .marked) (not-false (a .marked) (c .before .before .before .before .before .before .if1 .left))
-          (ap (gotBy (spots .absent)) (c .stop .ensures) ∙ name-short (a .limit) (a .file .now) (a .from) (item .result) (item .ensures) (s .1) (omega (arith, c .before .if2 .taken))),
-      omega arith,
-    )
-
-stop-requires-2 : tie.Need-stop-requires-2
-stop-requires-2 c κs = search needs
-
-returns-4 : tie.Need-returns-4
-returns-4 c =
     let a = c .before .before .before .before .before .before .before .before .before .args in
     let item = c .before .before .before .before .before .before .name-length in
     let s = c .before .before .before .before .next .given in (
       from-marked (spots .absent) (a .from) (nameAt spots (a .limit)) (a .file .now) (a .marked) (not-false (a .marked) (c .before .before .before .before .before .before .before .if1 .left))
-          (ap (gotBy (spots .absent)) (c .stop2 .ensures) ∙ name-short (a .limit) (a .file .now) (a .from) (item .result) (item .ensures) (s .1) (omega (arith, c .before .if3 .taken))),
+          (ap (gotBy (spots .absent)) (c .stop .ensures) ∙ name-short (a .limit) (a .file .now) (a .from) (item .result) (item .ensures) (s .1) (sym (c .before .before .ends-early .ensures) ∙ c .before .if2 .taken)),
       omega arith,
     )
 
-add-t14 : tie.Need-add-t14
-add-t14 c = search needs
+add-t16 : tie.Need-add-t16
+add-t16 c = let room = ltb-false (length (c .before .before .before .before .before .before .before .before .args .file .now)) (c .before .before .before .next .given .0 .0 + c .before .before .before .before .before .name-length .result .value) (sym (c .before .ends-early .ensures) ∙ c .if2 .left) in search needs
 
-returns-5 : tie.Need-returns-5
-returns-5 c =
+returns-4 : tie.Need-returns-4
+returns-4 c =
     let a = c .before .before .before .before .before .before .before .before .args in
     let item = c .before .before .before .before .before .name-length in
     let s = c .before .before .before .next .given in
-    let fits : s .0 .0 + item .result .value ≤ length (a .file .now) = omega (arith, c .before .if2 .left, c .if3 .left) in (
+    let fits = sym (c .before .ends-early .ensures) ∙ c .if2 .left in (
       from-marked (spots .absent) (a .from) (nameAt spots (a .limit)) (a .file .now) (a .marked) (not-false (a .marked) (c .before .before .before .before .before .before .if1 .left))
           (name-found (a .limit) (a .file .now) (a .from) (item .result) (item .ensures) (s .1) fits),
-      fits,
+      ltb-false (length (a .file .now)) (s .0 .0 + item .result .value) fits,
     )
 
 pub name-spec : {M : Type 1} → statement M
@@ -83,9 +73,8 @@ name-spec =
     enum-known-next
     enum-told
     returns-2
+    ends-early-requires
     stop-requires
     returns-3
-    stop-requires-2
-    returns-4
-    add-t14
-    returns-5)
+    add-t16
+    returns-4)
