@@ -136,16 +136,22 @@ def documents():
 
 def second_program():
     """What reference/ says that a program prints is what the program, just built, prints."""
-    expected = subprocess.run([sys.executable, "-B", "reference/sets.py"], stdin=subprocess.DEVNULL, capture_output=True, text=True)
-    demand(expected.returncode == 0, "reference/sets.py: " + expected.stderr.strip())
-    printed = subprocess.run(["target/bin/show_sets"], stdin=subprocess.DEVNULL, capture_output=True, text=True)
-    demand(printed.returncode == 0, f"show_sets ended with status {printed.returncode}")
-    ours, theirs = printed.stdout.splitlines(), expected.stdout.splitlines()
-    demand(theirs, "reference/sets.py prints nothing")
-    for number, (a, b) in enumerate(zip(ours, theirs), 1):
-        demand(a == b, f"line {number}: show_sets prints '{a}', reference/sets.py '{b}'")
-    demand(printed.stdout == expected.stdout, f"show_sets prints {len(ours)} lines, reference/sets.py {len(theirs)}")
-    return len(theirs)
+    compared = 0
+    for script in sorted((ROOT / "reference").glob("*.py")):
+        name = f"show_{script.stem}"
+        demand(name in programs(), f"reference/{script.name} is about a program {name}, which is not there")
+        expected = subprocess.run([sys.executable, "-B", str(script)], stdin=subprocess.DEVNULL, capture_output=True, text=True)
+        demand(expected.returncode == 0, f"reference/{script.name}: " + expected.stderr.strip())
+        printed = subprocess.run([f"target/bin/{name}"], stdin=subprocess.DEVNULL, capture_output=True, text=True)
+        demand(printed.returncode == 0, f"{name} ended with status {printed.returncode}")
+        ours, theirs = printed.stdout.splitlines(), expected.stdout.splitlines()
+        demand(theirs, f"reference/{script.name} prints nothing")
+        for number, (a, b) in enumerate(zip(ours, theirs), 1):
+            demand(a == b, f"line {number}: {name} prints '{a}', reference/{script.name} '{b}'")
+        demand(printed.stdout == expected.stdout, f"{name} prints {len(ours)} lines, reference/{script.name} {len(theirs)}")
+        compared += len(theirs)
+    demand(compared, "reference/ has no program")
+    return compared
 
 
 def snapshot():

@@ -94,7 +94,7 @@ alike-by : (f f′ : List ℕ) (a b : Job Spot) → alike (jobBy f a) (jobBy f�
 alike-by f f′ a b = rw (column-by f 0 (a .entries), column-by f 1 (a .entries), column-by f′ 0 (b .entries), column-by f′ 1 (b .entries))
 
 -- the test of the code, over arrays
-abbrev byArrays : ReadChoice → ReadChoice → Bool
+abbrev pub byArrays : ReadChoice → ReadChoice → Bool
 byArrays a b = eqb (a .articles) (b .articles) && (eqb (a .«wish_count») (b .«wish_count») && (eqb (a .order) (b .order) && (sameList (a .wishes) (b .wishes) && sameList (a .clashes) (b .clashes))))
 
 alike-is : (a b : Job Spot) (m n : ℕ) → Few 64 (got a m) → Few 64 (got b n) → byArrays (choiceOf (got a m)) (choiceOf (got b n)) ≡ alike a b

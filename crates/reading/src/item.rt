@@ -200,10 +200,10 @@ fn name_length(file: &[u8], from: Cursor, limit: u64) -> Item
     ensures { λ r. ⌜ itemOf r ≡ readFrom from (lengthAt limit (now (file .entry))) ⌝ }
 {
     let item = number(file, from, 1);
-    let v = item.value;
-    let present = tested(item, v == 0, Reason::EmptyField, place(from));
-    let w = present.value;
-    tested(present, limit < w, Reason::LongName, place(from))
+    let len = item.value;
+    let present = tested(item, len == 0, Reason::EmptyField, place(from));
+    let seen = present.value;
+    tested(present, limit < seen, Reason::LongName, place(from))
 }
 
 // A name, which is there where it is marked.

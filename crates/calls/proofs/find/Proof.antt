@@ -5,13 +5,17 @@ use mathlib.Core.Bool.{true, false}
 use mathlib.Core.List.{List}
 use Prim.Native.Nat.{ℕ}
 use lib.Dec.{eqb}
-use lib.ListN.{getD}
+use lib.ListN.{getD, take, drop}
 use Rattle.reading.specs.Items.{spots}
 use Rattle.jobfile.specs.Read.{read, readJob, choices, fittings, either}
-use Rattle.jobfile.specs.Answers.{choiceOf, fittingOf, spotOf}
+use Rattle.jobfile.specs.Answers.{choiceOf, fittingOf, spotOf, ChoiceBounds, FittingBounds}
 use Rattle.jobfile.proofs.ReadLaws.{either-choice, either-fitting, choice-spot, fitting-spot}
 use Rattle.jobfile.proofs.NamingLaws.{mapGot, jobBy, read-same}
-use Rattle.calls.specs.Find.{findOf}
+use Rattle.jobfile.specs.declared.Verdict.the-variants as Verdict
+use Rattle.jobfile.specs.declared.ReadChoice.{ReadChoice}
+use Rattle.jobfile.specs.declared.ReadFitting.{ReadFitting}
+use Rattle.calls.specs.declared.Found.{Found}
+use Rattle.calls.specs.Find.{findOf, searchOf}
 use Rattle.calls.proofs.CallLaws.{choice-taken, choice-down, fitting-taken, fitting-down, find-refused, find-is}
 use Rattle.calls.proofs.find.Statement.{statement}
 use Rattle.calls.proofs.find.Tie as tie
@@ -22,6 +26,21 @@ of-fitting f name e = sym (ap (λ g. findOf g name) (read-same f either ∙ ap (
 
 of-choice : (f name : List ℕ) → eqb (getD f 0 0) 70 ≡ false → findOf (mapGot (jobBy f) (read spots choices f)) name ≡ findOf (readJob either f) name
 of-choice f name e = sym (ap (λ g. findOf g name) (read-same f either ∙ ap (mapGot (jobBy f)) (either-choice spots f e)))
+
+-- what the search over a reading finds is what the rules ask for
+in-fitting : (f name : List ℕ) (r : ReadFitting) {x : Found} → r ≡ fittingOf (read spots fittings f) → FittingBounds f r → r .verdict ≡ Verdict.Accepted
+    → x ≡ searchOf name (r .steps) (λ i. take (getD (r .lens) i 0) (drop (getD (r .starts) i 0) f)) → x ≡ findOf (mapGot (jobBy f) (read spots fittings f)) name
+in-fitting f name r e bounds accepted found =
+    let g = read spots fittings f in
+    let t = fitting-taken g (ap (λ x. x .verdict) e) accepted in
+    found ∙ find-is f name g t (r .steps) (r .starts) (r .lens) (ap (λ x. x .steps) e ∙ ap (λ x. fittingOf x .steps) (t .is)) (λ i. ap (λ x. spotOf (x .starts) (x .lens) i) e ∙ fitting-spot g (bounds .4) i)
+
+in-choice : (f name : List ℕ) (r : ReadChoice) {x : Found} → r ≡ choiceOf (read spots choices f) → ChoiceBounds f r → r .verdict ≡ Verdict.Accepted
+    → x ≡ searchOf name (r .articles) (λ i. take (getD (r .lens) i 0) (drop (getD (r .starts) i 0) f)) → x ≡ findOf (mapGot (jobBy f) (read spots choices f)) name
+in-choice f name r e bounds accepted found =
+    let g = read spots choices f in
+    let t = choice-taken g (ap (λ x. x .verdict) e) accepted in
+    found ∙ find-is f name g t (r .articles) (r .starts) (r .lens) (ap (λ x. x .articles) e ∙ ap (λ x. choiceOf x .articles) (t .is)) (λ i. ap (λ x. spotOf (x .starts) (x .lens) i) e ∙ choice-spot g (bounds .3) i)
 
 is-fitting-requires : tie.Need-is-fitting-requires
 is-fitting-requires c κs = search needs
@@ -50,12 +69,7 @@ returns-2 c =
     let f = c .before .before .before .before .before .before .before .before .before .before .args .file .now in
     let name = c .before .before .before .before .before .before .before .before .before .before .args .name .now in
     let r = c .before .before .before .before .before .read-fitting in
-    let g = read spots fittings f in
-    let t = fitting-taken g (ap (λ x. x .verdict) (r .ensures .0)) (c .before .before .before .enum-told .given .1) in
-    c .search .ensures
-    ∙ find-is f name g t (r .result .steps) (r .result .starts) (r .result .lens) (ap (λ x. x .steps) (r .ensures .0) ∙ ap (λ x. fittingOf x .steps) (t .is))
-    (λ i. ap (λ x. spotOf (x .starts) (x .lens) i) (r .ensures .0) ∙ fitting-spot g (r .ensures .1 .4) i)
-    ∙ of-fitting f name (sym (c .before .before .before .before .before .before .before .is-fitting .ensures) ∙ c .before .before .before .before .before .before .if1 .taken)
+    in-fitting f name (r .result) (r .ensures .0) (r .ensures .1) (c .before .before .before .enum-told .given .1) (c .search .ensures) ∙ of-fitting f name (sym (c .before .before .before .before .before .before .before .is-fitting .ensures) ∙ c .before .before .before .before .before .before .if1 .taken)
 
 read-choice-requires : tie.Need-read-choice-requires
 read-choice-requires c κs = search needs
@@ -81,12 +95,7 @@ returns-4 c =
     let f = c .before .before .before .before .before .before .before .before .before .before .args .file .now in
     let name = c .before .before .before .before .before .before .before .before .before .before .args .name .now in
     let r = c .before .before .before .before .before .read-choice in
-    let g = read spots choices f in
-    let t = choice-taken g (ap (λ x. x .verdict) (r .ensures .0)) (c .before .before .before .enum-told2 .given .1) in
-    c .search2 .ensures
-    ∙ find-is f name g t (r .result .articles) (r .result .starts) (r .result .lens) (ap (λ x. x .articles) (r .ensures .0) ∙ ap (λ x. choiceOf x .articles) (t .is))
-    (λ i. ap (λ x. spotOf (x .starts) (x .lens) i) (r .ensures .0) ∙ choice-spot g (r .ensures .1 .3) i)
-    ∙ of-choice f name (sym (c .before .before .before .before .before .before .before .is-fitting .ensures) ∙ c .before .before .before .before .before .before .if1 .left)
+    in-choice f name (r .result) (r .ensures .0) (r .ensures .1) (c .before .before .before .enum-told2 .given .1) (c .search2 .ensures) ∙ of-choice f name (sym (c .before .before .before .before .before .before .before .is-fitting .ensures) ∙ c .before .before .before .before .before .before .if1 .left)
 
 pub find-spec : {M : Type 1} → statement M
 find-spec =

@@ -1,9 +1,9 @@
 -- `calls::names::search` meets its contract. The invariant: the numbers before those that are left do not have the name.
 use borrow.Author.Needs.{needs}
-use mathlib.Core.Path.{_≡_, sym, ap, ap₂, _∙_}
+use mathlib.Core.Path.{_≡_, sym, ap, _∙_}
 use mathlib.Core.Bool.{Bool}
 use mathlib.Core.List.{List}
-use Prim.Native.Nat.{ℕ, _+_, _-_, _≤_, _<_}
+use Prim.Native.Nat.{ℕ, _+_, _-_, _^_, _≤_, _<_}
 use native.Mathlib.Omega.{arith}
 use lib.ListN.{length, getD, take, drop}
 use Rattle.sets.specs.First.{firstFrom}
@@ -57,7 +57,10 @@ array-read-e : tie.Need-array-read-e Inv-loop μ-loop
 array-read-e c = search needs
 
 add-e : tie.Need-add-e Inv-loop μ-loop
-add-e c = let h = c .before .before .before .before .before .pre .1 (c .before .before .before .before .before .args .n - c .before .loop .left) in search needs
+add-e c =
+    let a = c .before .before .before .before .before .args in
+    let room : (i : ℕ) → getD (a .t2) i 0 + getD (a .t3) i 0 < 2 ^ 64 = λ i. let h = c .before .before .before .before .before .pre .1 i in search needs in
+    search (needs, room)
 
 sub-same-name : tie.Need-sub-same-name Inv-loop μ-loop
 sub-same-name c = search needs
@@ -66,7 +69,7 @@ part-same-name-start : tie.Need-part-same-name-start Inv-loop μ-loop
 part-same-name-start c = search needs
 
 part-same-name-end : tie.Need-part-same-name-end Inv-loop μ-loop
-part-same-name-end c = let h = c .before .before .before .before .before .pre .1 (c .before .before .before .before .before .args .n - c .before .loop .left) in search needs
+part-same-name-end c = search (needs, c .before .before .before .before .before .pre .1)
 
 same-name-requires : tie.Need-same-name-requires Inv-loop μ-loop
 same-name-requires c κs = search needs

@@ -1,5 +1,5 @@
-use borrow.Author.Needs.{needs}
 -- `jobfile::entry::read_rows` meets its contract. The invariant, `Filled`: the records read stand in the columns, and what is left is read from the cursor on.
+use borrow.Author.Needs.{needs}
 -- The measure is how many records are left.
 use Prim.Native.Nat.{_-_}
 use Rattle.jobfile.proofs.RowLaws.{Filled, rows-start, rows-turn, rows-end}

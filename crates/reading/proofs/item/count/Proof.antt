@@ -1,3 +1,4 @@
+-- `reading::item::count` meets its contract.
 use borrow.Author.Needs.{needs}
 use mathlib.Core.Path.{refl}
 use lib.Dec.{ltb}
@@ -6,8 +7,6 @@ use Rattle.reading.specs.Items.{countAt, numberAt}
 use Rattle.reading.proofs.StepLaws.{tested-is, count-limit}
 use Rattle.reading.proofs.item.count.Statement.{statement}
 use Rattle.reading.proofs.item.count.Tie as tie
-
--- `reading::item::count` meets its contract.
 
 number-requires : tie.Need-number-requires
 number-requires c κs = search needs

@@ -1,3 +1,4 @@
+-- `reading::item::finish` meets its contract.
 use borrow.Author.Needs.{needs}
 use mathlib.Core.Path.{sym, ap, _∙_}
 use lib.ListN.{length}
@@ -5,8 +6,6 @@ use borrow.Author.Tests.{lt-ltb, le-ltb}
 use Rattle.reading.specs.Cursors.{finished}
 use Rattle.reading.proofs.item.finish.Statement.{statement}
 use Rattle.reading.proofs.item.finish.Tie as tie
-
--- `reading::item::finish` meets its contract.
 
 enum-known-from : tie.Need-enum-known-from
 enum-known-from c = search needs

@@ -1,0 +1,2 @@
+-- The proved table.
+pub mod Table

@@ -1,0 +1,2 @@
+-- The examples that docs/RULES.md marks with a star.
+pub mod Table

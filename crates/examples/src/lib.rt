@@ -1,0 +1,1 @@
+// The examples of the rules: definitions and a proof, no code.
