@@ -1,0 +1,89 @@
+// Shows what becomes of a file that is cut short or has one bit changed. reference/damage.py prints
+// the same text from a reader of its own.
+ghost use Prim.Native.Nat.{_<_};
+ghost use lib.ListN.{length};
+use jobfile::Verdict;
+
+// One more file for a reason; 0 stands for accepted.
+fn add(tally: &mut [u64; 9], reason: usize) {
+    if reason < 9 {
+        tally[reason] = std::num::wrapping_add_u64(tally[reason], 1);
+    }
+}
+
+// What a damaged file gives, in short: `ok`, or the reason and the place.
+fn note(file: &[u8], tally: &mut [u64; 9]) {
+    let given = samples::verdict(file);
+    match given {
+        Verdict::Accepted => {
+            samples::say(b" ok");
+            add(tally, 0);
+        }
+        Verdict::Refused(refusal) => {
+            let why = refusal.reason;
+            let reason = reading::number(why);
+            samples::say_number(b" ", reason as u64);
+            samples::say_number(b"@", refusal.place as u64);
+            add(tally, reason as usize);
+        }
+    }
+}
+
+// The file with each bit of one byte flipped. The byte is put back at the end.
+fn flips(file: &mut [u8], place: usize, tally: &mut [u64; 9])
+    requires { ⌜ place < length (now file) ⌝ }
+{
+    let byte = file[place];
+    let mut bit: u32 = 0;
+    while bit < 8 {
+        file[place] = byte ^ (1u8 << bit);
+        note(file, tally);
+        bit += 1;
+    }
+    file[place] = byte;
+}
+
+fn totals(label: &[u8], tally: &[u64; 9]) {
+    samples::say(label);
+    samples::say(b" damaged, accepted and refused by 1 to 8:");
+    let mut reason: usize = 0;
+    while reason < 9 {
+        samples::say_number(b" ", tally[reason]);
+        reason += 1;
+    }
+    samples::say(b"\n");
+}
+
+// The bytes before a place alone, then the file with each bit of the byte there flipped.
+fn at_place(label: &[u8], file: &mut [u8], place: usize, tally: &mut [u64; 9])
+    requires { ⌜ place < length (now file) ⌝ }
+{
+    samples::say(label);
+    samples::say_number(b" ", place as u64);
+    samples::say(b":");
+    note(samples::first(file, place), tally);
+    samples::say(b", bits");
+    flips(file, place, tally);
+    samples::say(b"\n");
+}
+
+fn damage(label: &[u8], file: &mut [u8]) {
+    let mut tally = [0u64; 9];
+    let mut place: usize = 0;
+    while place < file.len() {
+        at_place(label, file, place, &mut tally);
+        place += 1;
+    }
+    totals(label, &tally);
+}
+
+fn main() {
+    let mut a = samples::case_a();
+    let mut n = samples::case_n();
+    let mut f = samples::case_f();
+    let mut m = samples::case_m();
+    damage(b"A", &mut a);
+    damage(b"N", &mut n);
+    damage(b"F", &mut f);
+    damage(b"M", &mut m);
+}
