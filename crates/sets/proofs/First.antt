@@ -1,10 +1,10 @@
 -- The laws of the first number that passes a test: it is the smallest, and there is only one. Assumes nothing.
 use mathlib.Core.Path.{_≡_, refl, sym, ap, _∙_}
 use mathlib.Core.Bool.{Bool, true, false, true≢false}
-use mathlib.Core.Option.{Option, none, some}
+use mathlib.Core.Option.{Option, none, some, Option·none-ne-some, Option·some-injective}
 use Prim.Native.Nat.{ℕ, zero, suc, _+_, _-_, _≤_, _<_}
 use native.Mathlib.Nat.{le-refl, le-antisymm}
-use native.Mathlib.Decide.{decLe}
+use native.Mathlib.Decide.{decLe, ℕ-discrete}
 use native.Mathlib.Numerals.{add-one}
 use native.Mathlib.Omega.{arith}
 use Rattle.sets.specs.First.{firstFrom, LeastFrom, Smallest}
@@ -48,6 +48,36 @@ module _ (test : ℕ → Bool) where
   pub first-nowhere : (left x : ℕ) → left ≤ 0 → none ≡ firstFrom test left x
   unfolding firstFrom
   first-nowhere left x l = let k : 0 ≡ left = omega arith in ap (λ (m : ℕ). firstFrom test m x) k
+
+  -- what was found passes, and stands among the numbers that were tried
+  pub first-some : (n x j : ℕ) → firstFrom test n x ≡ some j → (x ≤ j) × (j < x + n) × (test j ≡ true)
+  unfolding firstFrom
+  first-some zero x j e = absurd (Option·none-ne-some j e)
+  first-some (suc n) x j e = go (test x) refl (first-some n (suc x) j)
+    where
+      go : (b : Bool) → test x ≡ b → (firstFrom test n (suc x) ≡ some j → (suc x ≤ j) × (j < suc x + n) × (test j ≡ true)) → (x ≤ j) × (j < x + suc n) × (test j ≡ true)
+      go true t r = let q : x ≡ j = Option·some-injective x j (sym (first-hit n x t) ∙ e) in (omega arith, omega arith, ap test (sym q) ∙ t)
+      go false t r = let (a, b, c) = r (sym (first-miss n x t) ∙ e) in (omega arith, omega arith, c)
+
+  -- where nothing was found, all fail
+  pub first-none : (n x : ℕ) → firstFrom test n x ≡ none → (j : ℕ) → x ≤ j → j < x + n → test j ≡ false
+  unfolding firstFrom
+  first-none zero x e j l k = absurd (omega arith)
+  first-none (suc n) x e j l k = go (test x) refl (first-none n (suc x))
+    where
+      go : (b : Bool) → test x ≡ b → (firstFrom test n (suc x) ≡ none → (i : ℕ) → suc x ≤ i → i < suc x + n → test i ≡ false) → test j ≡ false
+      go true t r = absurd (Option·none-ne-some x (sym e ∙ first-hit n x t))
+      go false t r = at (ℕ-discrete x j)
+        where
+          at : Dec (x ≡ j) → test j ≡ false
+          at (yes q) = ap test (sym q) ∙ t
+          at (no d) = r (sym (first-miss n x t) ∙ e) j (omega arith) (omega arith)
+
+  -- where all fail, nothing is found
+  pub none-first : (n x : ℕ) → ((j : ℕ) → x ≤ j → j < x + n → test j ≡ false) → firstFrom test n x ≡ none
+  unfolding firstFrom
+  none-first zero x h = refl
+  none-first (suc n) x h = first-miss n x (h x (omega arith) (omega arith)) ∙ none-first n (suc x) (λ j l k. h j (omega arith) (omega arith))
 
 -- tests that agree find the same
 pub first-cong : (test other : ℕ → Bool) → ((i : ℕ) → test i ≡ other i) → (n x : ℕ) → firstFrom test n x ≡ firstFrom other n x

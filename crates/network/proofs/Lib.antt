@@ -1,0 +1,4 @@
+-- Theorems on groups and on the filter.
+pub mod NetworkLaws
+pub mod GroupLaws
+pub mod FilterLaws
