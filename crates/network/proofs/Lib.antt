@@ -1,4 +1,5 @@
 -- Theorems on groups and on the filter.
 pub mod NetworkLaws
 pub mod GroupLaws
+pub mod LentLaws
 pub mod FilterLaws

@@ -2,3 +2,4 @@
 pub mod Network
 pub mod Groups
 pub mod Filter
+pub mod Answers

@@ -148,6 +148,13 @@ at-any (suc k) test i l e = go (test k) refl (at-any k test i) (below-cases l)
     go false q r (inl h) = absurd (true≢false (sym e ∙ ap test h ∙ q))
     go false q r (inr h) = r h e
 
+pub none-any : (n : ℕ) (test : ℕ → Bool) → ((i : ℕ) → i < n → test i ≡ false) → anyTo n test ≡ false
+none-any n test h = go (test-cases (anyTo n test))
+  where
+    go : (anyTo n test ≡ true) ⊎ (anyTo n test ≡ false) → anyTo n test ≡ false
+    go (inl t) = let (i, l, e) = any-at n test t in absurd (true≢false (sym e ∙ h i l))
+    go (inr t) = t
+
 -- ---- sums
 
 pub sum-mono : (n : ℕ) (f g : ℕ → ℕ) → ((i : ℕ) → i < n → f i ≤ g i) → sumTo n f ≤ sumTo n g
