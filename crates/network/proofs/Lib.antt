@@ -3,3 +3,5 @@ pub mod NetworkLaws
 pub mod GroupLaws
 pub mod LentLaws
 pub mod FilterLaws
+pub mod PartitionLaws
+pub mod PassLaws
