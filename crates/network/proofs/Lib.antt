@@ -5,3 +5,4 @@ pub mod LentLaws
 pub mod FilterLaws
 pub mod PartitionLaws
 pub mod PassLaws
+pub mod GoalLaws

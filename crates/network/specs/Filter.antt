@@ -1,12 +1,31 @@
 -- The projection filter (docs/RULES.md, "Filter pass"; 001, definitions 3 and 4). Groups, live set and projection goal are given.
-use mathlib.Core.Bool.{Bool, not, _&&_}
+use mathlib.Core.Bool.{Bool, not, _&&_, _||_}
 use mathlib.Core.List.{List, [], _∷_}
-use Prim.Native.Nat.{ℕ}
+use mathlib.Core.Option.{Option}
+use Prim.Native.Nat.{ℕ, _^_}
 use lib.Bits.{bitAnd}
 use lib.Dec.{leb, eqb}
+use lib.ListN.{length, getD}
 use Rattle.sets.specs.Ranges.{given, sumTo, maxTo}
-use Rattle.sets.specs.Sets.{_⊆_, member, without, full, setOf, count}
+use Rattle.sets.specs.Sets.{_⊆_, member, part, without, full, setOf, count}
+use Rattle.sets.specs.First.{firstFrom}
 use Rattle.network.specs.Network.{Network}
+
+-- ---- what is lent
+
+-- reason 12: the live set names an article that a file of n articles lacks
+unfoldable pub outside : ℕ → ℕ → Bool
+outside n live = leb (2 ^ n) live
+
+-- reason 13: a goal is empty or not within the order
+unfoldable pub badGoal : ℕ → ℕ → Bool
+badGoal order p = eqb p 0 || not (part p order)
+
+-- the index of the first such goal, its place
+unfoldable pub firstBad : ℕ → List ℕ → Option ℕ
+firstBad order goals = firstFrom (λ i. badGoal order (getD goals i 0)) (length goals) 0
+
+-- ---- the pass
 
 -- the wishes of p that article u carries, counted; none where u is not live or not of group j
 unfoldable pub share : Network → (ℕ → ℕ) → ℕ → ℕ → ℕ → ℕ → ℕ

@@ -121,7 +121,7 @@ fn number(file: &[u8], from: Cursor, bytes: usize) -> Item
 }
 
 // Whether a set has a member at or above the limit.
-fn exceeds(v: u64, limit: usize) -> bool
+pub fn exceeds(v: u64, limit: usize) -> bool
     ensures { λ r. ⌜ r ≡ leb (2 ^ limit) v ⌝ }
 {
     if 64 <= limit {
