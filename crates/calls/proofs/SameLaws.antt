@@ -4,8 +4,7 @@ use mathlib.Core.Logic.{_⊎_, ⊎-elim}
 use mathlib.Core.Bool.{true, false, true≢false, false≢true}
 use mathlib.Core.List.{List, [], _∷_}
 use mathlib.Core.Option.{none}
-use Prim.Native.Nat.{ℕ, _+_, _-_, _≤_, _<_}
-use native.Mathlib.Decide.{ℕ-discrete}
+use Prim.Native.Nat.{ℕ, _-_, _≤_, _<_}
 use native.Mathlib.Omega.{arith}
 use lib.Dec.{eqb}
 use lib.ListN.{length, getD}
@@ -53,14 +52,6 @@ one-differs a b i d = differ a b (λ e. d (ap (λ (l : List ℕ). getD l i 0) e)
 
 pub lengths-differ : (a b : List ℕ) → (length a ≡ length b → ⊥) → false ≡ sameList a b
 lengths-differ a b d = differ a b (λ e. d (ap (λ (l : List ℕ). length l) e))
-
--- one element more
-pub one-more : (a b : List ℕ) (i : ℕ) → ((j : ℕ) → j < i → getD a j 0 ≡ getD b j 0) → getD a i 0 ≡ getD b i 0 → (j : ℕ) → j < i + 1 → getD a j 0 ≡ getD b j 0
-one-more a b i h e j l = go (ℕ-discrete j i)
-  where
-    go : Dec (j ≡ i) → getD a j 0 ≡ getD b j 0
-    go (yes q) = ap (λ (k : ℕ). getD a k 0) q ∙ e ∙ ap (λ (k : ℕ). getD b k 0) (sym q)
-    go (no d) = h j (omega arith)
 
 -- ---- arrays
 

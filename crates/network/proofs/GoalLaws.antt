@@ -3,12 +3,12 @@ use mathlib.Core.Path.{_≡_, refl, sym, ap, _∙_}
 use mathlib.Core.Bool.{true, not, _||_}
 use mathlib.Core.List.{List}
 use Prim.Native.Nat.{ℕ, _^_, _-_}
-use native.Mathlib.Omega.{arith}
 use lib.Dec.{leb, eqb}
 use lib.ListN.{length, getD}
 use borrow.Author.Tests.{eq-eqb, ne-eqb}
 use Rattle.sets.specs.Sets.{without, part}
 use Rattle.sets.specs.First.{firstFrom}
+use Rattle.sets.proofs.First.{left-start}
 use Rattle.network.specs.Filter.{outside, badGoal, firstBad}
 
 pub outside-is : (n live : ℕ) → leb (2 ^ n) live ≡ outside n live
@@ -25,6 +25,6 @@ module _ (order p : ℕ) where
   bad-part d e = ap (λ (x : ℕ). not (eqb x 0)) e ∙ sym (ap (λ t. t || not (eqb (without p order) 0)) (ne-eqb p 0 d))
 
 -- all goals are left at first
-pub all-left : (order : ℕ) (goals : List ℕ) {n : ℕ} → n ≡ length goals → firstFrom (λ i. badGoal order (getD goals i 0)) n (n - n) ≡ firstBad order goals
+pub all-left : (order : ℕ) (goals : List ℕ) → firstFrom (λ i. badGoal order (getD goals i 0)) (length goals) (length goals - length goals) ≡ firstBad order goals
 unfolding firstBad
-all-left order goals {n} e = let k : n - n ≡ 0 = omega arith in ap (firstFrom (λ i. badGoal order (getD goals i 0)) n) k ∙ ap (λ (m : ℕ). firstFrom (λ i. badGoal order (getD goals i 0)) m 0) e
+all-left order goals = left-start (λ i. badGoal order (getD goals i 0)) (length goals)

@@ -1,19 +1,5 @@
-// The files that the programs show, and what the programs have in common.
+// The files that the programs show, and whether a file is accepted.
 use jobfile::Verdict;
-use libc::STDOUT_FILENO;
-
-pub fn say(text: &[u8]) {
-    io::write_all(STDOUT_FILENO, text);
-}
-
-pub fn number(x: u64) {
-    io::print_decimal(STDOUT_FILENO, x);
-}
-
-pub fn say_number(text: &[u8], x: u64) {
-    say(text);
-    number(x);
-}
 
 // The first n bytes of a file.
 pub fn first(file: &[u8], n: usize) -> &[u8] {

@@ -49,6 +49,14 @@ module _ (test : ℕ → Bool) where
   unfolding firstFrom
   first-nowhere left x l = let k : 0 ≡ left = omega arith in ap (λ (m : ℕ). firstFrom test m x) k
 
+  -- a loop over the numbers below n, of which so many are left: the next is n - left
+  pub left-start : (n : ℕ) → firstFrom test n (n - n) ≡ firstFrom test n 0
+  left-start n = let k : n - n ≡ 0 = omega arith in ap (firstFrom test n) k
+
+  pub left-next : (n left : ℕ) → 0 < left → left ≤ n → test (n - left) ≡ false → firstFrom test (left - 1) (n - (left - 1)) ≡ firstFrom test left (n - left)
+  left-next n left l h e =
+      let k : n - (left - 1) ≡ n - left + 1 = omega arith in ap (firstFrom test (left - 1)) k ∙ sym (first-next left (n - left) l e)
+
   -- what was found passes, and stands among the numbers that were tried
   pub first-some : (n x j : ℕ) → firstFrom test n x ≡ some j → (x ≤ j) × (j < x + n) × (test j ≡ true)
   unfolding firstFrom

@@ -1,5 +1,5 @@
 -- The laws of tests and ranges. Assumes nothing.
-use mathlib.Core.Path.{_≡_, refl, sym, ap, ap₂, _∙_}
+use mathlib.Core.Path.{_≡_, refl, sym, ap, ap₂, _∙_, subst}
 use mathlib.Core.Logic.{_⊎_, inl, inr, _≢_}
 use mathlib.Core.Bool.{Bool, true, false, not, _&&_, _||_, true≢false, false≢true}
 use mathlib.Core.List.{List, [], _∷_, _++_, map, map-append}
@@ -18,6 +18,14 @@ use Rattle.sets.specs.Ranges.{num, given, everyTo, anyTo, sumTo, maxTo, 
 -- below k + 1: k, or below k
 pub below-cases : {i k : ℕ} → i < suc k → (i ≡ k) ⊎ (i < k)
 below-cases h = eq-or-lt-of-le (omega arith)
+
+-- what holds below i, and of i, holds below i + 1
+pub one-more : (P : ℕ → Type 0) (i : ℕ) → ((j : ℕ) → j < i → P j) → P i → (j : ℕ) → j < i + 1 → P j
+one-more P i h e j l = go (below-cases (omega arith))
+  where
+    go : (j ≡ i) ⊎ (j < i) → P j
+    go (inl q) = subst P (sym q) e
+    go (inr k) = h j k
 
 pub test-cases : (b : Bool) → (b ≡ true) ⊎ (b ≡ false)
 test-cases true = inl refl

@@ -16,14 +16,14 @@ fn note(file: &[u8], tally: &mut [u64; 9]) {
     let given = samples::verdict(file);
     match given {
         Verdict::Accepted => {
-            samples::say(b" ok");
+            print::say(b" ok");
             add(tally, 0);
         }
         Verdict::Refused(refusal) => {
             let why = refusal.reason;
             let reason = reading::number(why);
-            samples::say_number(b" ", reason as u64);
-            samples::say_number(b"@", refusal.place as u64);
+            print::say_number(b" ", reason as u64);
+            print::say_number(b"@", refusal.place as u64);
             add(tally, reason as usize);
         }
     }
@@ -44,27 +44,27 @@ fn flips(file: &mut [u8], place: usize, tally: &mut [u64; 9])
 }
 
 fn totals(label: &[u8], tally: &[u64; 9]) {
-    samples::say(label);
-    samples::say(b" damaged, accepted and refused by 1 to 8:");
+    print::say(label);
+    print::say(b" damaged, accepted and refused by 1 to 8:");
     let mut reason: usize = 0;
     while reason < 9 {
-        samples::say_number(b" ", tally[reason]);
+        print::say_number(b" ", tally[reason]);
         reason += 1;
     }
-    samples::say(b"\n");
+    print::say(b"\n");
 }
 
 // The bytes before a place alone, then the file with each bit of the byte there flipped.
 fn at_place(label: &[u8], file: &mut [u8], place: usize, tally: &mut [u64; 9])
     requires { ⌜ place < length (now file) ⌝ }
 {
-    samples::say(label);
-    samples::say_number(b" ", place as u64);
-    samples::say(b":");
+    print::say(label);
+    print::say_number(b" ", place as u64);
+    print::say(b":");
     note(samples::first(file, place), tally);
-    samples::say(b", bits");
+    print::say(b", bits");
     flips(file, place, tally);
-    samples::say(b"\n");
+    print::say(b"\n");
 }
 
 fn damage(label: &[u8], file: &mut [u8]) {

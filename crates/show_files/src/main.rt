@@ -5,97 +5,90 @@ use calls::Compared;
 use calls::Found;
 use jobfile::Verdict;
 use reading::Refusal;
-use sets::word;
 
 fn refused(refusal: Refusal) {
     let reason = refusal.reason;
-    samples::say_number(b"refused ", reading::number(reason) as u64);
-    samples::say_number(b" at ", refusal.place as u64);
-    samples::say(b"\n");
+    print::say_number(b"refused ", reading::number(reason) as u64);
+    print::say_number(b" at ", refusal.place as u64);
+    print::say(b"\n");
 }
 
 fn case(label: &[u8], file: &[u8]) {
-    samples::say(label);
-    samples::say_number(b": ", file.len() as u64);
-    samples::say(b" bytes, ");
+    print::say(label);
+    print::say_number(b": ", file.len() as u64);
+    print::say(b" bytes, ");
     let given = samples::verdict(file);
     match given {
-        Verdict::Accepted => samples::say(b"accepted\n"),
+        Verdict::Accepted => print::say(b"accepted\n"),
         Verdict::Refused(refusal) => refused(refusal),
     }
 }
 
-// A set by its members, from the lowest up.
 fn say_set(text: &[u8], s: u64) {
-    samples::say(text);
-    samples::say(b"{");
-    let mut left = s;
-    while left != 0 {
-        samples::say_number(b" ", word::lowest(left) as u64);
-        left = word::rest(left);
-    }
-    samples::say(b" }");
+    print::say(text);
+    print::say(b"{");
+    print::members(s);
+    print::say(b" }");
 }
 
 fn say_name(text: &[u8], file: &[u8], i: usize) {
-    samples::say(text);
-    samples::say(b"[");
-    samples::say(calls::name(file, i));
-    samples::say(b"]\n");
+    print::say(text);
+    print::say(b"[");
+    print::say(calls::name(file, i));
+    print::say(b"]\n");
 }
 
 fn article(file: &[u8], i: usize, wishes: u64, clashes: u64) {
-    samples::say_number(b"  article ", i as u64);
+    print::say_number(b"  article ", i as u64);
     say_set(b": wishes ", wishes);
     say_set(b", clashes ", clashes);
     say_name(b", name ", file, i);
 }
 
-fn articles(file: &[u8], n: usize, wishes: [u64; 64], clashes: [u64; 64])
-    requires { ⌜ n ≤ 64 ⌝ }
-{
-    let mut i: usize = 0;
-    while i < n {
-        article(file, i, wishes[i], clashes[i]);
-        i += 1;
-    }
-}
-
-fn choice(label: &[u8], file: &[u8]) {
-    let read = jobfile::read_choice(file);
-    samples::say(label);
-    samples::say_number(b": ", read.articles as u64);
-    samples::say_number(b" articles, ", read.wish_count as u64);
-    say_set(b" wishes, order ", read.order);
-    samples::say(b"\n");
-    let wishes = read.wishes;
-    let clashes = read.clashes;
-    articles(file, read.articles, wishes, clashes);
-}
-
 fn step(file: &[u8], i: usize, needs: u64, gives: u64, takes: u64) {
-    samples::say_number(b"  step ", i as u64);
+    print::say_number(b"  step ", i as u64);
     say_set(b": needs ", needs);
     say_set(b", gives ", gives);
     say_set(b", takes ", takes);
     say_name(b", name ", file, i);
 }
 
-fn steps(file: &[u8], n: usize, needs: [u64; 64], gives: [u64; 64], takes: [u64; 64])
+// A record of either kind; that of an article has no third set.
+fn record(file: &[u8], i: usize, fitting: bool, a: u64, b: u64, c: u64) {
+    if fitting {
+        step(file, i, a, b, c);
+    } else {
+        article(file, i, a, b);
+    }
+}
+
+fn records(file: &[u8], n: usize, fitting: bool, a: [u64; 64], b: [u64; 64], c: [u64; 64])
     requires { ⌜ n ≤ 64 ⌝ }
 {
     let mut i: usize = 0;
     while i < n {
-        step(file, i, needs[i], gives[i], takes[i]);
+        record(file, i, fitting, a[i], b[i], c[i]);
         i += 1;
     }
 }
 
+fn choice(label: &[u8], file: &[u8]) {
+    let read = jobfile::read_choice(file);
+    print::say(label);
+    print::say_number(b": ", read.articles as u64);
+    print::say_number(b" articles, ", read.wish_count as u64);
+    say_set(b" wishes, order ", read.order);
+    print::say(b"\n");
+    let wishes = read.wishes;
+    let clashes = read.clashes;
+    records(file, read.articles, false, wishes, clashes, [0; 64]);
+}
+
 fn counts(label: &[u8], steps: usize, facts: usize, horizon: usize) {
-    samples::say(label);
-    samples::say_number(b": ", steps as u64);
-    samples::say_number(b" steps, ", facts as u64);
-    samples::say_number(b" facts, horizon ", horizon as u64);
+    print::say(label);
+    print::say_number(b": ", steps as u64);
+    print::say_number(b" steps, ", facts as u64);
+    print::say_number(b" facts, horizon ", horizon as u64);
 }
 
 fn fitting(label: &[u8], file: &[u8]) {
@@ -103,46 +96,46 @@ fn fitting(label: &[u8], file: &[u8]) {
     counts(label, read.steps, read.facts, read.horizon);
     say_set(b", start ", read.start);
     say_set(b", goal ", read.goal);
-    samples::say(b"\n");
+    print::say(b"\n");
     let needs = read.needs;
     let gives = read.gives;
     let takes = read.takes;
-    steps(file, read.steps, needs, gives, takes);
+    records(file, read.steps, true, needs, gives, takes);
 }
 
 fn find(wanted: &[u8], label: &[u8], file: &[u8]) {
-    samples::say(b"find [");
-    samples::say(wanted);
-    samples::say(b"] in ");
-    samples::say(label);
+    print::say(b"find [");
+    print::say(wanted);
+    print::say(b"] in ");
+    print::say(label);
     let found = calls::find(file, wanted);
     match found {
         Found::At(i) => {
-            samples::say_number(b": ", i as u64);
-            samples::say(b"\n");
+            print::say_number(b": ", i as u64);
+            print::say(b"\n");
         }
         Found::Refused(refusal) => {
-            samples::say(b": ");
+            print::say(b": ");
             refused(refusal);
         }
     }
 }
 
 fn name_of(i: usize, label: &[u8], file: &[u8]) {
-    samples::say_number(b"name ", i as u64);
-    samples::say(b" of ");
-    samples::say(label);
+    print::say_number(b"name ", i as u64);
+    print::say(b" of ");
+    print::say(label);
     say_name(b": ", file, i);
 }
 
 fn compare(label: &[u8], first: &[u8], second: &[u8]) {
-    samples::say(b"compare ");
-    samples::say(label);
-    samples::say(b": ");
+    print::say(b"compare ");
+    print::say(label);
+    print::say(b": ");
     let compared = calls::compare(first, second);
     match compared {
-        Compared::Alike => samples::say(b"alike\n"),
-        Compared::Unlike => samples::say(b"unlike\n"),
+        Compared::Alike => print::say(b"alike\n"),
+        Compared::Unlike => print::say(b"unlike\n"),
         Compared::Refused(refusal) => refused(refusal),
     }
 }

@@ -4,7 +4,8 @@ use mathlib.Core.Path.{_≡_}
 use Prim.Native.Nat.{ℕ, _-_, _≤_, _<_}
 use native.Mathlib.Omega.{arith}
 use lib.ListN.{length, getD}
-use Rattle.calls.proofs.SameLaws.{all-same, one-differs, one-more}
+use Rattle.sets.proofs.Ranges.{one-more}
+use Rattle.calls.proofs.SameLaws.{all-same, one-differs}
 use Rattle.calls.proofs.likeness.same_words.Statement.{statement}
 use Rattle.calls.proofs.likeness.same_words.Tie as tie
 
@@ -42,7 +43,7 @@ loop-again : tie.Need-loop-again Inv-loop μ-loop
 loop-again c =
     let a = c .before .before .before .args in
     let l = c .before .before .loop in
-    (omega (arith, c .before .loop-test .taken), one-more (a .t1) (a .t2) (l .i) (l .inv .1) (c .if1 .left))
+    (omega (arith, c .before .loop-test .taken), one-more (λ j. getD (a .t1) j 0 ≡ getD (a .t2) j 0) (l .i) (l .inv .1) (c .if1 .left))
 
 returns-2 : tie.Need-returns-2 Inv-loop μ-loop
 returns-2 c =

@@ -4,7 +4,8 @@ use mathlib.Core.Path.{_≡_}
 use Prim.Native.Nat.{ℕ, _-_, _≤_, _<_}
 use native.Mathlib.Omega.{arith}
 use lib.ListN.{length, getD}
-use Rattle.calls.proofs.SameLaws.{all-same, one-differs, one-more, lengths-differ}
+use Rattle.sets.proofs.Ranges.{one-more}
+use Rattle.calls.proofs.SameLaws.{all-same, one-differs, lengths-differ}
 use Rattle.calls.proofs.names.same_name.Statement.{statement}
 use Rattle.calls.proofs.names.same_name.Tie as tie
 
@@ -39,7 +40,7 @@ loop-again : tie.Need-loop-again Inv-loop μ-loop
 loop-again c =
     let a = c .before .before .before .before .before .before .args in
     let l = c .before .before .before .before .loop in
-    (omega (arith, c .before .before .before .loop-test .taken), l .inv .1, l .inv .2, one-more (a .a .now) (a .b .now) (l .i) (l .inv .3) (c .if2 .left))
+    (omega (arith, c .before .before .before .loop-test .taken), l .inv .1, l .inv .2, one-more (λ j. getD (a .a .now) j 0 ≡ getD (a .b .now) j 0) (l .i) (l .inv .3) (c .if2 .left))
 
 returns-3 : tie.Need-returns-3 Inv-loop μ-loop
 returns-3 c =

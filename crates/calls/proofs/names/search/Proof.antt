@@ -7,7 +7,7 @@ use Prim.Native.Nat.{ℕ, _+_, _-_, _^_, _≤_, _<_}
 use native.Mathlib.Omega.{arith}
 use lib.ListN.{length, getD, take, drop}
 use Rattle.sets.specs.First.{firstFrom}
-use Rattle.sets.proofs.First.{first-here, first-next, first-nowhere}
+use Rattle.sets.proofs.First.{first-here, first-nowhere, left-start, left-next}
 use Rattle.calls.specs.Same.{sameName}
 use Rattle.calls.specs.Find.{foundBy}
 use Rattle.calls.proofs.SameLaws.{search-some, search-none}
@@ -39,7 +39,7 @@ returns : tie.Need-returns Inv-loop μ-loop
 returns c = c .missing .ensures ∙ search-none (c .before .before .before .before .args .name .now) (c .before .before .before .before .args .n) (nameOf (c .before .before .before .before .args .file .now) (c .before .before .before .before .args .t2) (c .before .before .before .before .args .t3)) (omega (arith, c .before .if1 .taken))
 
 loop-holds : tie.Need-loop-holds Inv-loop μ-loop
-loop-holds c = let k : c .before .before .before .args .n - c .before .before .before .args .n ≡ 0 = omega arith in (omega arith, omega (arith, c .if1 .left), ap (firstFrom (hasName (c .before .before .before .args .file .now) (c .before .before .before .args .t2) (c .before .before .before .args .t3) (c .before .before .before .args .name .now)) (c .before .before .before .args .n)) k)
+loop-holds c = (omega arith, omega (arith, c .if1 .left), left-start (hasName (c .before .before .before .args .file .now) (c .before .before .before .args .t2) (c .before .before .before .args .t3) (c .before .before .before .args .name .now)) (c .before .before .before .args .n))
 
 sub-i : tie.Need-sub-i Inv-loop μ-loop
 sub-i c = search needs
@@ -95,8 +95,7 @@ loop-again c =
     let l = c .before .before .before .before .loop in
     let i = a .n - l .left in
     let test = hasName (a .file .now) (a .t2) (a .t3) (a .name .now) in
-    let k : a .n - (l .left - 1) ≡ i + 1 = omega (arith, c .before .before .before .loop-test .taken) in
-    (omega arith, l .inv .1, ap (firstFrom test (l .left - 1)) k ∙ sym (first-next test (l .left) i (c .before .before .before .loop-test .taken) (seen (a .file .now) (a .t2) (a .t3) (a .name .now) i (c .before .same-name .ensures) ∙ c .if2 .left)) ∙ l .inv .2)
+    (omega arith, l .inv .1, left-next test (a .n) (l .left) (c .before .before .before .loop-test .taken) (l .inv .0) (seen (a .file .now) (a .t2) (a .t3) (a .name .now) i (c .before .same-name .ensures) ∙ c .if2 .left) ∙ l .inv .2)
 
 missing-requires-2 : tie.Need-missing-requires-2 Inv-loop μ-loop
 missing-requires-2 c κs = search needs

@@ -3,11 +3,11 @@ use borrow.Author.Needs.{needs}
 use mathlib.Core.Path.{_≡_, refl, sym, ap, _∙_}
 use mathlib.Core.Bool.{Bool}
 use mathlib.Core.List.{List}
-use Prim.Native.Nat.{ℕ, _+_, _-_, _≤_}
+use Prim.Native.Nat.{ℕ, _-_, _≤_}
 use native.Mathlib.Omega.{arith}
 use lib.ListN.{length, getD}
 use Rattle.sets.specs.First.{firstFrom}
-use Rattle.sets.proofs.First.{first-here, first-next, first-nowhere}
+use Rattle.sets.proofs.First.{first-here, first-nowhere, left-next}
 use Rattle.network.specs.Filter.{badGoal, firstBad}
 use Rattle.network.specs.Answers.{goalsBy}
 use Rattle.network.proofs.GoalLaws.{all-left}
@@ -24,7 +24,7 @@ abbrev μ-loop : tie.MeasureT-loop
 μ-loop order goals n left₀ left = left
 
 loop-holds : tie.Need-loop-holds Inv-loop μ-loop
-loop-holds c = (omega arith, refl, all-left (c .before .args .order) (c .before .args .goals .now) refl)
+loop-holds c = (omega arith, refl, all-left (c .before .args .order) (c .before .args .goals .now))
 
 sub-i : tie.Need-sub-i Inv-loop μ-loop
 sub-i c = search needs
@@ -57,8 +57,7 @@ loop-again c =
     let l = c .before .before .before .before .loop in
     let n = length (a .goals .now) in
     let test = bad (a .order) (a .goals .now) in
-    let k : n - (l .left - 1) ≡ n - l .left + 1 = omega (arith, l .inv .0, c .before .before .before .loop-test .taken) in
-    (omega (arith, l .inv .0), refl, ap (firstFrom test (l .left - 1)) k ∙ sym (first-next test (l .left) (n - l .left) (c .before .before .before .loop-test .taken) (sym (c .before .bad-goal .ensures) ∙ c .if1 .left)) ∙ l .inv .2)
+    (omega (arith, l .inv .0), refl, left-next test n (l .left) (c .before .before .before .loop-test .taken) (l .inv .0) (sym (c .before .bad-goal .ensures) ∙ c .if1 .left) ∙ l .inv .2)
 
 returns-2 : tie.Need-returns-2 Inv-loop μ-loop
 returns-2 c =

@@ -3,11 +3,11 @@ use borrow.Author.Needs.{needs}
 use mathlib.Core.Path.{_≡_, sym, ap, _∙_}
 use mathlib.Core.Bool.{Bool}
 use mathlib.Core.List.{List, []}
-use Prim.Native.Nat.{ℕ, _-_, _+_, _≤_}
+use Prim.Native.Nat.{ℕ, _-_, _≤_}
 use native.Mathlib.Omega.{arith}
 use lib.ListN.{getD}
 use Rattle.sets.specs.First.{firstFrom}
-use Rattle.sets.proofs.First.{first-here, first-next, first-nowhere}
+use Rattle.sets.proofs.First.{first-here, first-nowhere, left-start, left-next}
 use Rattle.network.specs.Network.{listed}
 use Rattle.network.specs.Groups.{misplaced, firstMisplaced}
 use Rattle.network.specs.Answers.{lentBy}
@@ -20,7 +20,7 @@ wrong n clashes groups u = misplaced (listed n [] clashes) (λ v. getD groups v 
 -- all of them are left at first
 all : (n : ℕ) (clashes groups : List ℕ) → firstFrom (wrong n clashes groups) n (n - n) ≡ firstMisplaced (listed n [] clashes) (λ v. getD groups v 0)
 unfolding firstMisplaced
-all n clashes groups = let k : n - n ≡ 0 = omega arith in ap (firstFrom (wrong n clashes groups) n) k
+all n clashes groups = left-start (wrong n clashes groups) n
 
 abbrev Inv-loop : tie.InvT-loop
 Inv-loop clashes groups n left₀ left = (left ≤ n) × (firstFrom (wrong n clashes groups) left (n - left) ≡ firstMisplaced (listed n [] clashes) (λ v. getD groups v 0))
@@ -54,8 +54,7 @@ loop-again c =
     let a = c .before .before .before .before .before .args in
     let l = c .before .before .before .loop in
     let test = wrong (a .n) (a .clashes .now) (a .groups .now) in
-    let k : a .n - (l .left - 1) ≡ a .n - l .left + 1 = omega (arith, c .before .before .loop-test .taken) in
-    (omega arith, ap (firstFrom test (l .left - 1)) k ∙ sym (first-next test (l .left) (a .n - l .left) (c .before .before .loop-test .taken) (sym (c .before .misplaced .ensures) ∙ c .if1 .left)) ∙ l .inv .1)
+    (omega arith, left-next test (a .n) (l .left) (c .before .before .loop-test .taken) (l .inv .0) (sym (c .before .misplaced .ensures) ∙ c .if1 .left) ∙ l .inv .1)
 
 returns-2 : tie.Need-returns-2 Inv-loop μ-loop
 returns-2 c =

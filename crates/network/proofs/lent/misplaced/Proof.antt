@@ -5,7 +5,8 @@ use mathlib.Core.Bool.{false}
 use Prim.Native.Nat.{ℕ, _-_, _≤_, _<_}
 use native.Mathlib.Omega.{arith}
 use lib.ListN.{getD}
-use Rattle.network.proofs.LentLaws.{odd, out-of-range, one-odd, none-odd, one-more}
+use Rattle.sets.proofs.Ranges.{one-more}
+use Rattle.network.proofs.LentLaws.{odd, out-of-range, one-odd, none-odd}
 use Rattle.network.proofs.lent.misplaced.Statement.{statement}
 use Rattle.network.proofs.lent.misplaced.Tie as tie
 
@@ -40,7 +41,7 @@ loop-less : tie.Need-loop-less Inv-loop μ-loop
 loop-less c = search needs
 
 loop-again : tie.Need-loop-again Inv-loop μ-loop
-loop-again c = (omega (arith, c .before .before .loop-test .taken), c .before .before .before .loop .inv .1, one-more (c .before .before .before .before .before .before .before .before .args .n) (c .before .before .before .before .before .before .before .before .args .clashes .now) (c .before .before .before .before .before .before .before .before .args .groups .now) (c .before .before .before .before .before .before .before .before .args .u) (c .before .before .before .loop .v) (c .before .before .before .loop .inv .2) (sym (c .before .at-odds .ensures) ∙ c .if2 .left))
+loop-again c = (omega (arith, c .before .before .loop-test .taken), c .before .before .before .loop .inv .1, one-more (λ w. odd (c .before .before .before .before .before .before .before .before .args .n) (c .before .before .before .before .before .before .before .before .args .clashes .now) (c .before .before .before .before .before .before .before .before .args .groups .now) (c .before .before .before .before .before .before .before .before .args .u) w ≡ false) (c .before .before .before .loop .v) (c .before .before .before .loop .inv .2) (sym (c .before .at-odds .ensures) ∙ c .if2 .left))
 
 returns-3 : tie.Need-returns-3 Inv-loop μ-loop
 returns-3 c = none-odd (c .before .before .before .before .before .before .args .n) (c .before .before .before .before .before .before .args .clashes .now) (c .before .before .before .before .before .before .args .groups .now) (c .before .before .before .before .before .before .args .u) (c .before .loop .inv .1) (λ w l. c .before .loop .inv .2 w (omega (arith, c .loop-test .left)))
