@@ -1,12 +1,12 @@
 #!/usr/bin/env python3
-"""Prints what the program show_damage must print, with the reader of files.py, which is written from docs/RULES.md alone.
+"""Prints what the program show_damage must print, with reader.py, which is written from docs/RULES.md alone.
 
 It shares nothing with crates/. The gate compares the two texts and says how many lines it compared.
 """
 
 from collections import Counter
 
-from files import BASES, Refused, read
+from reader import BASES, Refused, read
 
 
 def reason_and_place(file):

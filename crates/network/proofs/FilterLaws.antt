@@ -4,7 +4,7 @@ use mathlib.Core.Logic.{_⊎_, inl, inr}
 use mathlib.Core.Bool.{true, false, not, _&&_, true≢false}
 use mathlib.Core.List.{List, [], _∷_}
 use Prim.Native.Nat.{ℕ, _^_, _≤_, _<_, zero-le, min}
-use native.Mathlib.Nat.{le-trans, le-of-eq}
+use native.Mathlib.Nat.{le-refl, le-trans, le-of-eq}
 use native.Mathlib.Decide.{ℕ-discrete}
 use native.Mathlib.Omega.{arith}
 use lib.Bits.{bitAnd}
@@ -12,14 +12,26 @@ use lib.Dec.{eqb}
 use borrow.Author.Tests.{le-leb, eq-eqb, ne-eqb}
 use Rattle.sets.specs.Ranges.{given, sumTo}
 use Rattle.sets.specs.Sets.{_∈_, _⊆_, member, without, full, count}
-use Rattle.sets.proofs.Ranges.{test-cases, true-both, given-yes, given-no, given-le, sum-classes, max-at}
-use Rattle.sets.proofs.Bits.{bit-and, bit-without, part-in, part-full, member-yes, yes-member, without-apart, in-without}
-use Rattle.sets.proofs.Made.{part-set}
+use Rattle.sets.proofs.Ranges.{test-cases, both-true, true-both, given-yes, given-no, given-le, sum-classes, max-at}
+use Rattle.sets.proofs.Bits.{bit-and, bit-without, part-in, in-part, part-full, member-yes, yes-member, without-apart, in-without}
+use Rattle.sets.proofs.Made.{in-set, part-set}
 use Rattle.sets.proofs.Counts.{count-gathered, count-part, count-empty}
 use Rattle.network.specs.Network.{Network, ClashFree, together, Covers, Selection}
 use Rattle.network.specs.Groups.{Partition}
 use Rattle.network.specs.Filter.{share, contribution, total, others, supported, pass, passes, GoalsWithin, setAside}
 use Rattle.network.proofs.NetworkLaws.{apart}
+
+-- what was struck does not come back
+pub pass-part : (N : Network) (group : ℕ → ℕ) (live p : ℕ) → pass N group live p ⊆ live
+unfolding pass
+pass-part N group live p =
+    in-part (pass N group live p) live
+    (λ v e. yes-member live v (both-true (member live v) (supported N group live p v) (in-set (N .articles) (λ v. member live v && supported N group live p v) v e .1) .0))
+
+pub passes-part : (N : Network) (group : ℕ → ℕ) (live : ℕ) (goals : List ℕ) → passes N group live goals ⊆ live
+unfolding passes
+passes-part N group live [] i = le-refl _
+passes-part N group live (p ∷ ps) i = le-trans (passes-part N group (pass N group live p) ps i) (pass-part N group live p i)
 
 module _ (N : Network) (group : ℕ → ℕ) (ok : Partition N group) where
   -- where each member brings at most c of its group, a clash-free set covers no more than the sum of c: no two members share a group

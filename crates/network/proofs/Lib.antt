@@ -6,3 +6,4 @@ pub mod FilterLaws
 pub mod PartitionLaws
 pub mod PassLaws
 pub mod GoalLaws
+pub mod ListedLaws

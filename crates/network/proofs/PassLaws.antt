@@ -1,24 +1,37 @@
 -- A pass as loops compute it: the contributions group by group, their sum, and the set of those that are supported. Assumes nothing.
 use mathlib.Core.Path.{_≡_, refl, sym, ap, ap₂, _∙_}
 use mathlib.Core.Logic.{_⊎_, inl, inr, _≢_}
-use mathlib.Core.Bool.{Bool, true, false, _&&_}
+use mathlib.Core.Bool.{Bool, _&&_}
 use mathlib.Core.List.{List}
 use Prim.Native.Nat.{ℕ, _+_, _-_, _^_, _≤_, _<_, max}
 use native.Mathlib.Omega.{arith}
+use native.Mathlib.Numerals.{add-one}
 use native.Mathlib.Nat.{le-trans}
-use lib.Bits.{bitAnd, bitOr, or-zero-r}
+use native.Mathlib.Decide.{decLe}
+use lib.Bits.{bitAnd, bitOr, and-comm}
 use lib.Dec.{leb, eqb}
-use lib.ListN.{length, getD, set, replicate, length-set, length-replicate, getD-replicate}
-use lib.Seq.{getD-set-same, getD-set-other, ext-getD}
-use borrow.Author.Tests.{eq-eqb, ne-eqb}
+use lib.ListN.{length, getD, drop, drop-of-length-le, set, replicate, length-set, length-replicate, getD-replicate}
+use lib.Seq.{drop-cons, getD-set-same, getD-set-other, ext-getD}
+use borrow.Author.Tests.{le-leb, lt-leb, eq-eqb, ne-eqb}
 use Rattle.sets.specs.Ranges.{given, sumTo, maxTo, listTo}
 use Rattle.sets.specs.Sets.{member, without, count, setOf}
-use Rattle.sets.proofs.Ranges.{same-cases, test-cases, given-both, given-zero, given-le, sum-cong, sum-past, sum-but, max-most, max-turn, list-length, list-at}
+use Rattle.sets.proofs.Ranges.{same-cases, given-both, given-zero, given-le, sum-cong, sum-past, sum-but, max-most, max-turn, list-length, list-at}
 use Rattle.sets.proofs.Bits.{bit-and}
-use Rattle.sets.proofs.Made.{set-take, set-skip}
-use Rattle.sets.proofs.Counts.{count-le, count-part}
+use Rattle.sets.proofs.Made.{set-turn}
+use Rattle.sets.proofs.Counts.{count-le, count-part, count-without}
 use Rattle.network.specs.Network.{Network}
-use Rattle.network.specs.Filter.{share, contribution, others, supported, pass}
+use Rattle.network.specs.Filter.{share, contribution, others, supported, pass, passes}
+
+-- what the goal has beyond the wishes of v is its count less what v carries of it
+pub lacking-left : (p s want own rest : ℕ) → want ≡ count p → own ≡ count (bitAnd s p) → leb want (rest + own) ≡ leb (count (without p s)) rest
+lacking-left p s want own rest ew eo = go (decLe (count (without p s)) rest)
+  where
+    whole : count (without p s) + own ≡ want
+    whole = ap (λ (x : ℕ). count (without p s) + x) (eo ∙ ap count (and-comm s p)) ∙ count-without p s ∙ sym ew
+
+    go : Dec (count (without p s) ≤ rest) → leb want (rest + own) ≡ leb (count (without p s)) rest
+    go (yes h) = le-leb want (rest + own) (omega (arith, whole)) ∙ sym (le-leb (count (without p s)) rest h)
+    go (no h) = lt-leb want (rest + own) (omega (arith, whole)) ∙ sym (lt-leb (count (without p s)) rest (omega arith))
 
 module _ (N : Network) (group : ℕ → ℕ) (live p : ℕ) where
   -- the words hold, for each group, the most that one of the articles below u carries
@@ -111,12 +124,19 @@ module _ (N : Network) (group : ℕ → ℕ) (live p : ℕ) where
   unfolding supported
   pass-turn s v rest r passed es er ep e =
       e ∙ ap₂ (λ (x : ℕ) (b : Bool). bitOr x (given b (2 ^ v))) es (ep ∙ ap (λ (x : ℕ). member live v && leb (count (without p (N .wishes v))) x) er)
-      ∙ go (test-cases (keeps v))
-    where
-      go : (keeps v ≡ true) ⊎ (keeps v ≡ false) → bitOr (setOf v keeps) (given (keeps v) (2 ^ v)) ≡ setOf (v + 1) keeps
-      go (inl t) = ap (λ (b : Bool). bitOr (setOf v keeps) (given b (2 ^ v))) t ∙ sym (set-take v keeps t)
-      go (inr t) = ap (λ (b : Bool). bitOr (setOf v keeps) (given b (2 ^ v))) t ∙ or-zero-r (setOf v keeps) ∙ sym (set-skip v keeps t)
+      ∙ sym (set-turn v keeps)
 
   pub pass-end : (s v : ℕ) → s ≡ setOf v keeps → v ≡ N .articles → s ≡ pass N group live p
   unfolding pass
   pass-end s v e h = e ∙ ap (λ (n : ℕ). setOf n keeps) h
+
+-- ---- passes in turn: from goal i on
+
+module _ (N : Network) (group : ℕ → ℕ) (goals : List ℕ) where
+  pub passes-turn : (live i : ℕ) → i < length goals → passes N group (pass N group live (getD goals i 0)) (drop (i + 1) goals) ≡ passes N group live (drop i goals)
+  unfolding passes
+  passes-turn live i l = rw add-one (sym (ap (passes N group live) (drop-cons goals i 0 l)))
+
+  pub passes-end : (live i : ℕ) → length goals ≤ i → passes N group live (drop i goals) ≡ live
+  unfolding passes
+  passes-end live i l = ap (passes N group live) (drop-of-length-le goals l)

@@ -2,8 +2,8 @@
 ghost use mathlib.Core.Path.{_≡_};
 ghost use mathlib.Core.Bool.{_&&_};
 ghost use mathlib.Core.List.{[]};
-ghost use Prim.Native.Nat.{ℕ, _^_, _≤_, _<_, max};
-ghost use lib.Bits.{bitAnd, bitOr};
+ghost use Prim.Native.Nat.{ℕ, _+_, _≤_, _<_, max};
+ghost use lib.Bits.{bitAnd};
 ghost use lib.Dec.{leb};
 ghost use lib.ListN.{length, getD};
 ghost use Rattle.sets.specs.Ranges.{given, sumTo, listTo};
@@ -53,6 +53,7 @@ fn contributions(wishes: &[u64; 64], groups: &[u8], n: usize, live: u64, goal: u
 fn sum(best: &[u64; 64]) -> u64
     requires { ⌜ ((j : ℕ) → j < 64 → getD (now best) j 0 ≤ 64) ⌝ }
     ensures { λ r. ⌜ r ≡ sumTo 64 (λ j. getD (now (best .entry)) j 0) ⌝ }
+    ensures { λ r. ⌜ r ≤ 4096 ⌝ }
 {
     let mut all: u64 = 0;
     let mut j: usize = 0;
@@ -63,27 +64,25 @@ fn sum(best: &[u64; 64]) -> u64
     all
 }
 
-// Whether v is live, and what the goal has beyond its wishes is no more than the rest contributes.
-fn stays(wishes: &[u64; 64], v: usize, live: u64, goal: u64, rest: u64) -> bool
-    requires { ⌜ v < 64 ⌝ }
+// Whether an article's own share and what the rest contributes reach what is wanted.
+fn reaches(want: u64, own: u64, rest: u64) -> bool
+    requires { ⌜ (own ≤ 64) × (rest ≤ 4096) ⌝ }
+    ensures { λ r. ⌜ r ≡ leb want (rest + own) ⌝ }
+{
+    want <= rest + own
+}
+
+// Whether v is live and supported. Wanted are all wishes of the goal: what it has beyond those of v
+// is its count less the share of v.
+fn stays(wishes: &[u64; 64], v: usize, live: u64, goal: u64, want: u64, rest: u64) -> bool
+    requires { ⌜ (v < 64) × (want ≡ count goal) × (rest ≤ 4096) ⌝ }
     ensures { λ r. ⌜ r ≡ (member live v && leb (count (without goal (getD (now (wishes .entry)) v 0))) rest) ⌝ }
 {
     if word::bit_at(live, v) == 1 {
-        let lacking = word::count(word::without(goal, wishes[v])) as u64;
-        return lacking <= rest;
+        let own = word::count(wishes[v] & goal) as u64;
+        return reaches(want, own, rest);
     }
     false
-}
-
-// s, with v where the test passed.
-fn more_if(s: u64, v: usize, passed: bool) -> u64
-    requires { ⌜ v < 64 ⌝ }
-    ensures { λ r. ⌜ r ≡ bitOr s (given passed (2 ^ v)) ⌝ }
-{
-    if passed {
-        return word::more(s, v);
-    }
-    s
 }
 
 // A pass: the live articles that are supported.
@@ -93,13 +92,14 @@ pub fn pass(wishes: &[u64; 64], groups: &[u8], n: usize, live: u64, goal: u64) -
 {
     let best = contributions(wishes, groups, n, live, goal);
     let all = sum(&best);
+    let want = word::count(goal) as u64;
     let mut kept: u64 = 0;
     let mut v: usize = 0;
     while v < n {
         let j = groups[v] as usize;
         let rest = all - best[j];
-        let passed = stays(wishes, v, live, goal, rest);
-        kept = more_if(kept, v, passed);
+        let passed = stays(wishes, v, live, goal, want, rest);
+        kept = word::more_if(kept, v, passed);
         v += 1;
     }
     kept

@@ -1,5 +1,6 @@
-// The files that the programs show, and whether a file is accepted.
+// The files that the programs show, whether a file is accepted, and how a refusal is printed.
 use jobfile::Verdict;
+use reading::Refusal;
 
 // The first n bytes of a file.
 pub fn first(file: &[u8], n: usize) -> &[u8] {
@@ -17,6 +18,14 @@ pub fn verdict(file: &[u8]) -> Verdict {
     }
     let read = jobfile::read_choice(file);
     read.verdict
+}
+
+// The number of the reason and the place, and the end of the line.
+pub fn say_refusal(refusal: Refusal) {
+    let reason = refusal.reason;
+    print::say_number(b"refused ", reading::number(reason) as u64);
+    print::say_number(b" at ", refusal.place as u64);
+    print::say(b"\n");
 }
 
 // Case A of the rules.

@@ -9,10 +9,11 @@ use native.Mathlib.Decide.{decLt, ℕ-discrete}
 use native.Mathlib.Omega.{arith}
 use lib.Arith.{bin-ind, digits-mod, lt-one, le-zero}
 use lib.Pow.{pow-pos, pow-mono, pow-lt, shl-shr, shr-shr}
-use lib.Bits.{bitAnd, bitOr, and-shr, or-shr, and-step, or-step, and-le-l, and-le-r, or-add-and, or-disjoint, and-mask, shifted-even, shifted-half}
-use borrow.Author.Tests.{eq-eqb, ne-eqb, eqb-true, eqb-false}
+use lib.Bits.{bitAnd, bitOr, and-comm, and-shr, or-shr, and-step, or-step, and-le-l, and-le-r, or-add-and, or-disjoint, and-mask, shifted-even, shifted-half}
+use lib.Dec.{eqb}
+use borrow.Author.Tests.{eq-eqb, ne-eqb, eqb-true, eqb-false, not-false}
 use Rattle.sets.specs.Ranges.{num, everyTo}
-use Rattle.sets.specs.Sets.{bit, _∈_, member, without, _⊆_, part, everyPair, full}
+use Rattle.sets.specs.Sets.{bit, _∈_, member, without, _⊆_, part, meets, everyPair, full}
 use Rattle.sets.proofs.Ranges.{num-true, num-false, every-at, at-every}
 
 -- ---- one bit
@@ -27,6 +28,13 @@ bit-cases s i = go (bit s i) (bit-le s i)
     go : (b : ℕ) → b ≤ 1 → (b ≡ 0) ⊎ (b ≡ 1)
     go zero h = inl refl
     go (suc b) h = inr (omega arith)
+
+pub not-in : (s i : ℕ) → (i ∈ s → ⊥) → bit s i ≡ 0
+not-in s i h = go (bit-cases s i)
+  where
+    go : (bit s i ≡ 0) ⊎ (bit s i ≡ 1) → bit s i ≡ 0
+    go (inl z) = z
+    go (inr e) = absurd (h e)
 
 -- the lowest bit, and the bits of the half
 pub bit-low : (s : ℕ) → bit s 0 ≡ s % 2
@@ -140,11 +148,7 @@ only-one (suc t) zero e = omega (arith, bit-low (2 ^ suc t), pow-suc 2 t)
 only-one (suc t) (suc i) e = ap suc (only-one t i (ap (λ (x : ℕ). bit x i) (sym (pow-half t)) ∙ sym (bit-suc (2 ^ suc t) i) ∙ e))
 
 pub bit-other : (t i : ℕ) → i ≢ t → bit (2 ^ t) i ≡ 0
-bit-other t i d = go (bit-cases (2 ^ t) i)
-  where
-    go : (bit (2 ^ t) i ≡ 0) ⊎ (bit (2 ^ t) i ≡ 1) → bit (2 ^ t) i ≡ 0
-    go (inl z) = z
-    go (inr e) = absurd (d (only-one t i e))
+bit-other t i d = not-in (2 ^ t) i (λ e. d (only-one t i e))
 
 -- ---- parts
 
@@ -207,11 +211,7 @@ pub member-no : (s i : ℕ) → bit s i ≡ 0 → member s i ≡ false
 member-no s i e = ne-eqb (bit s i) 1 (λ q. let z : ⊥ = omega arith in z)
 
 pub not-member : (s i : ℕ) → member s i ≡ false → bit s i ≡ 0
-not-member s i t = go (bit-cases s i)
-  where
-    go : (bit s i ≡ 0) ⊎ (bit s i ≡ 1) → bit s i ≡ 0
-    go (inl z) = z
-    go (inr e) = absurd (eqb-false (bit s i) 1 t e)
+not-member s i t = not-in s i (eqb-false (bit s i) 1 t)
 
 pub num-member : (s i : ℕ) → num (member s i) ≡ bit s i
 num-member s i = go (bit-cases s i)
@@ -228,30 +228,31 @@ pub yes-part : (a b : ℕ) → part a b ≡ true → a ⊆ b
 unfolding part
 yes-part a b t = none-without a b (eqb-true (without a b) 0 t)
 
+-- "where i is a member, b" as a test
+pub where-in : (s i : ℕ) (b : Bool) → (i ∈ s → b ≡ true) → not (member s i) || b ≡ true
+where-in s i b h = go (member s i) refl
+  where
+    go : (m : Bool) → member s i ≡ m → not m || b ≡ true
+    go true e = h (yes-member s i e)
+    go false e = refl
+
+pub in-where : (s i : ℕ) (b : Bool) → i ∈ s → not (member s i) || b ≡ true → b ≡ true
+in-where s i b e t = rw (member-yes s i e) at t
+
 -- every two members of a set of n bits pass the test, said both ways
 pub every-pair : (n s : ℕ) (test : ℕ → ℕ → Bool) → s < 2 ^ n → everyPair n s test ≡ true → (u v : ℕ) → u < v → u ∈ s → v ∈ s → test u v ≡ true
 unfolding everyPair
 every-pair n s test h t u v l eu ev =
-    after (test u v) u eu (every-at v (λ u. not (member s u) || test u v)
-    (after (everyTo v (λ u. not (member s u) || test u v)) v ev
+    in-where s u (test u v) eu (every-at v (λ u. not (member s u) || test u v)
+    (in-where s v (everyTo v (λ u. not (member s u) || test u v)) ev
     (every-at n (λ v. not (member s v) || everyTo v (λ u. not (member s u) || test u v)) t v (member-below s n v h ev))) u l)
-  where
-    after : (b : Bool) (i : ℕ) → i ∈ s → not (member s i) || b ≡ true → b ≡ true
-    after b i e q = rw (member-yes s i e) at q
 
 pub pair-every : (n s : ℕ) (test : ℕ → ℕ → Bool) → ((u v : ℕ) → u < v → u ∈ s → v ∈ s → test u v ≡ true) → everyPair n s test ≡ true
 unfolding everyPair
 pair-every n s test h =
     at-every n (λ v. not (member s v) || everyTo v (λ u. not (member s u) || test u v))
-    (λ v k. where-in (everyTo v (λ u. not (member s u) || test u v)) v
-    (λ ev. at-every v (λ u. not (member s u) || test u v) (λ u l. where-in (test u v) u (λ eu. h u v l eu ev))))
-  where
-    where-in : (b : Bool) (i : ℕ) → (i ∈ s → b ≡ true) → not (member s i) || b ≡ true
-    where-in b i q = go (member s i) refl
-      where
-        go : (m : Bool) → member s i ≡ m → not m || b ≡ true
-        go true e = q (yes-member s i e)
-        go false e = refl
+    (λ v k. where-in s v (everyTo v (λ u. not (member s u) || test u v))
+    (λ ev. at-every v (λ u. not (member s u) || test u v) (λ u l. where-in s u (test u v) (λ eu. h u v l eu ev))))
 
 -- ---- members of the operations
 
@@ -313,6 +314,23 @@ apart-in a b e i x y = omega (arith, ap (λ (z : ℕ). bit z i) e, bit-and a b i
 
 pub in-apart : (a b : ℕ) → ((i : ℕ) → i ∈ a → i ∈ b → ⊥) → bitAnd a b ≡ 0
 in-apart a b h = no-member (bitAnd a b) (λ i e. h i (omega (arith, bit-and a b i, bit-le a i)) (omega (arith, bit-and a b i, bit-le b i)))
+
+-- the same by the test
+pub meets-no : (a b : ℕ) → ((i : ℕ) → i ∈ a → i ∈ b → ⊥) → meets a b ≡ false
+unfolding meets
+meets-no a b h = ap not (eq-eqb (bitAnd a b) 0 (in-apart a b h))
+
+pub no-meets : (a b : ℕ) → meets a b ≡ false → (i : ℕ) → i ∈ a → i ∈ b → ⊥
+unfolding meets
+no-meets a b t = apart-in a b (eqb-true (bitAnd a b) 0 (not-false (eqb (bitAnd a b) 0) t))
+
+pub meets-yes : (a b i : ℕ) → i ∈ a → i ∈ b → meets a b ≡ true
+unfolding meets
+meets-yes a b i x y = ap not (ne-eqb (bitAnd a b) 0 (λ e. apart-in a b e i x y))
+
+pub meets-turned : (a b : ℕ) → meets a b ≡ meets b a
+unfolding meets
+meets-turned a b = ap (λ (x : ℕ). not (eqb x 0)) (and-comm a b)
 
 -- what b leaves of a shares nothing with b
 pub without-apart : (a b : ℕ) → bitAnd b (without a b) ≡ 0

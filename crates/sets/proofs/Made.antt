@@ -12,7 +12,7 @@ use lib.Pow.{pow-pos, pow-lt}
 use lib.Bits.{bitAnd, bitOr, or-lt, or-zero-r}
 use Rattle.sets.specs.Ranges.{num, given, sumTo}
 use Rattle.sets.specs.Sets.{bit, _∈_, member, without, _⊆_, full, setOf, unionTo, gathered}
-use Rattle.sets.proofs.Ranges.{below-cases, num-le, num-true, true-num, sum-cong, given-yes}
+use Rattle.sets.proofs.Ranges.{below-cases, test-cases, num-le, num-true, true-num, sum-cong, given-yes, given-no}
 use Rattle.sets.proofs.Bits.{member-yes, yes-member, bit-le, bit-cases, bit-low, bit-suc, bit-high, bit-empty, ext, bit-and, bit-or, bit-without, bit-minus, bit-full, part-in, in-part, part-full, member-below, no-member, more-add, less-in}
 
 -- ---- those that pass a test
@@ -80,6 +80,14 @@ pub set-skip : (u : ℕ) (test : ℕ → Bool) → test u ≡ false → setOf (u
 unfolding setOf sumTo
 set-skip u test e = rw add-one (ap (λ (t : Bool). setOf u test + num t * 2 ^ u) e ∙ omega (arith, zero-mul (2 ^ u)))
 
+-- the same as one equation
+pub set-turn : (u : ℕ) (test : ℕ → Bool) → setOf (u + 1) test ≡ bitOr (setOf u test) (given (test u) (2 ^ u))
+set-turn u test = go (test-cases (test u))
+  where
+    go : (test u ≡ true) ⊎ (test u ≡ false) → setOf (u + 1) test ≡ bitOr (setOf u test) (given (test u) (2 ^ u))
+    go (inl t) = set-take u test t ∙ ap (bitOr (setOf u test)) (sym (given-yes (test u) (2 ^ u) t))
+    go (inr t) = set-skip u test t ∙ sym (or-zero-r (setOf u test)) ∙ ap (bitOr (setOf u test)) (sym (given-no (test u) (2 ^ u) t))
+
 -- ---- unions
 
 -- each set is a part of the union
@@ -132,6 +140,15 @@ module _ (n : ℕ) (f : ℕ → ℕ) where
       let (a, l, g) = union-from n (λ a. given (member s a) (f a)) i e in
       let (t, m) = given-in (member s a) (f a) i g in
       (a, l, yes-member s a t, m)
+
+  -- a bound on what each member has bounds it all
+  pub gathered-below : (w s : ℕ) → ((a : ℕ) → a < n → a ∈ s → f a < 2 ^ w) → gathered n s f < 2 ^ w
+  unfolding gathered
+  gathered-below w s h = union-below w n (λ a. given (member s a) (f a)) (λ a l. go a l (member s a) refl)
+    where
+      go : (a : ℕ) → a < n → (t : Bool) → member s a ≡ t → given t (f a) < 2 ^ w
+      go a l true e = h a l (yes-member s a e)
+      go a l false e = pow-pos w
 
   pub gathered-mono : (s t : ℕ) → s ⊆ t → gathered n s f ⊆ gathered n t f
   gathered-mono s t h =

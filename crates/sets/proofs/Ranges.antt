@@ -52,6 +52,25 @@ pub either-true : (a b : Bool) → a || b ≡ true → (a ≡ true) ⊎ (b ≡ t
 either-true true b e = inl refl
 either-true false b e = inr e
 
+pub both-false : (a b : Bool) → a ≡ false → b ≡ false → a || b ≡ false
+both-false true b e f = e
+both-false false b e f = f
+
+pub neither : (a b : Bool) → a || b ≡ false → (a ≡ false) × (b ≡ false)
+neither true b e = absurd (true≢false e)
+neither false b e = (refl, e)
+
+-- two tests that pass, or fail, together are the same
+pub same-true : (a b : Bool) → (a ≡ true → b ≡ true) → (b ≡ true → a ≡ true) → a ≡ b
+same-true true b f g = sym (f refl)
+same-true false true f g = g refl
+same-true false false f g = refl
+
+pub same-false : (a b : Bool) → (a ≡ false → b ≡ false) → (b ≡ false → a ≡ false) → a ≡ b
+same-false false b f g = sym (f refl)
+same-false true false f g = g refl
+same-false true true f g = refl
+
 -- ---- the bit of a test
 
 pub num-le : (b : Bool) → num b ≤ 1

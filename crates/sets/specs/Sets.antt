@@ -34,6 +34,10 @@ a ⊆ b = (i : ℕ) → bit a i ≤ bit b i
 unfoldable pub part : ℕ → ℕ → Bool
 part a b = eqb (without a b) 0
 
+-- whether a and b have a member in common
+unfoldable pub meets : ℕ → ℕ → Bool
+meets a b = not (eqb (bitAnd a b) 0)
+
 -- whether every two members u < v of s below n pass the test
 unfoldable pub everyPair : ℕ → ℕ → (ℕ → ℕ → Bool) → Bool
 everyPair n s test = everyTo n (λ v. not (member s v) || everyTo v (λ u. not (member s u) || test u v))

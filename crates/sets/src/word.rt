@@ -1,10 +1,11 @@
 // Sets in one word of 64 bits. What a function asks of its caller is proved at each call; nothing
 // is tested or refused at run time.
 ghost use mathlib.Core.Path.{_≡_};
-ghost use Prim.Native.Nat.{_<_, _^_};
+ghost use Prim.Native.Nat.{_≤_, _<_, _^_};
 ghost use lib.Bits.{bitOr};
 ghost use lib.ListN.{getD};
-ghost use Rattle.sets.specs.Sets.{bit, without, count, lowest, gathered};
+ghost use Rattle.sets.specs.Ranges.{given};
+ghost use Rattle.sets.specs.Sets.{bit, without, full, count, lowest, gathered};
 
 // The set whose one member is i.
 pub fn unit(i: usize) -> u64
@@ -43,6 +44,28 @@ pub fn less(s: u64, i: usize) -> u64
     ensures { λ r. ⌜ r ≡ without s (2 ^ i) ⌝ }
 {
     without(s, unit(i))
+}
+
+// s, with the member i where the test passed.
+pub fn more_if(s: u64, i: usize, passed: bool) -> u64
+    requires { ⌜ i < 64 ⌝ }
+    ensures { λ r. ⌜ r ≡ bitOr s (given passed (2 ^ i)) ⌝ }
+{
+    if passed {
+        return more(s, i);
+    }
+    s
+}
+
+// All numbers below n.
+pub fn full(n: usize) -> u64
+    requires { ⌜ n ≤ 64 ⌝ }
+    ensures { λ r. ⌜ r ≡ full n ⌝ }
+{
+    if n == 64 {
+        return 0xffff_ffff_ffff_ffff;
+    }
+    unit(n) - 1
 }
 
 // How many members s has.

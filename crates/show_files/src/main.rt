@@ -1,17 +1,7 @@
-// Shows how files are read: the cases of the rules, four whole readings, names and comparison.
-// reference/files.py prints the same text from a reader of its own.
+// Shows how files are read: the cases of the rules, and four whole readings. reference/files.py
+// prints the same text from a reader of its own.
 ghost use Prim.Native.Nat.{_≤_};
-use calls::Compared;
-use calls::Found;
 use jobfile::Verdict;
-use reading::Refusal;
-
-fn refused(refusal: Refusal) {
-    let reason = refusal.reason;
-    print::say_number(b"refused ", reading::number(reason) as u64);
-    print::say_number(b" at ", refusal.place as u64);
-    print::say(b"\n");
-}
 
 fn case(label: &[u8], file: &[u8]) {
     print::say(label);
@@ -20,7 +10,7 @@ fn case(label: &[u8], file: &[u8]) {
     let given = samples::verdict(file);
     match given {
         Verdict::Accepted => print::say(b"accepted\n"),
-        Verdict::Refused(refusal) => refused(refusal),
+        Verdict::Refused(refusal) => samples::say_refusal(refusal),
     }
 }
 
@@ -31,35 +21,29 @@ fn say_set(text: &[u8], s: u64) {
     print::say(b" }");
 }
 
-fn say_name(text: &[u8], file: &[u8], i: usize) {
-    print::say(text);
-    print::say(b"[");
-    print::say(calls::name(file, i));
-    print::say(b"]\n");
-}
-
-fn article(file: &[u8], i: usize, wishes: u64, clashes: u64) {
+fn article(i: usize, wishes: u64, clashes: u64) {
     print::say_number(b"  article ", i as u64);
     say_set(b": wishes ", wishes);
     say_set(b", clashes ", clashes);
-    say_name(b", name ", file, i);
 }
 
-fn step(file: &[u8], i: usize, needs: u64, gives: u64, takes: u64) {
+fn step(i: usize, needs: u64, gives: u64, takes: u64) {
     print::say_number(b"  step ", i as u64);
     say_set(b": needs ", needs);
     say_set(b", gives ", gives);
     say_set(b", takes ", takes);
-    say_name(b", name ", file, i);
 }
 
 // A record of either kind; that of an article has no third set.
 fn record(file: &[u8], i: usize, fitting: bool, a: u64, b: u64, c: u64) {
     if fitting {
-        step(file, i, a, b, c);
+        step(i, a, b, c);
     } else {
-        article(file, i, a, b);
+        article(i, a, b);
     }
+    print::say(b", name [");
+    print::say(calls::name(file, i));
+    print::say(b"]\n");
 }
 
 fn records(file: &[u8], n: usize, fitting: bool, a: [u64; 64], b: [u64; 64], c: [u64; 64])
@@ -103,43 +87,6 @@ fn fitting(label: &[u8], file: &[u8]) {
     records(file, read.steps, true, needs, gives, takes);
 }
 
-fn find(wanted: &[u8], label: &[u8], file: &[u8]) {
-    print::say(b"find [");
-    print::say(wanted);
-    print::say(b"] in ");
-    print::say(label);
-    let found = calls::find(file, wanted);
-    match found {
-        Found::At(i) => {
-            print::say_number(b": ", i as u64);
-            print::say(b"\n");
-        }
-        Found::Refused(refusal) => {
-            print::say(b": ");
-            refused(refusal);
-        }
-    }
-}
-
-fn name_of(i: usize, label: &[u8], file: &[u8]) {
-    print::say_number(b"name ", i as u64);
-    print::say(b" of ");
-    print::say(label);
-    say_name(b": ", file, i);
-}
-
-fn compare(label: &[u8], first: &[u8], second: &[u8]) {
-    print::say(b"compare ");
-    print::say(label);
-    print::say(b": ");
-    let compared = calls::compare(first, second);
-    match compared {
-        Compared::Alike => print::say(b"alike\n"),
-        Compared::Unlike => print::say(b"unlike\n"),
-        Compared::Refused(refusal) => refused(refusal),
-    }
-}
-
 fn cases(a: &[u8], more: &[u8], f: &[u8]) {
     case(b"A", a);
     case(b"A without its last byte", samples::first(a, 45));
@@ -157,33 +104,6 @@ fn readings(a: &[u8], n: &[u8], f: &[u8], m: &[u8]) {
     fitting(b"M", m);
 }
 
-fn names(label: &[u8], file: &[u8]) {
-    find(b"a", label, file);
-    find(b"a name of exactly two and thirty", label, file);
-    find(b"b", label, file);
-    find(b"cut", label, file);
-    find(b"cu", label, file);
-    find(b"", label, file);
-    name_of(0, label, file);
-    name_of(64, label, file);
-    name_of(0x8000_0000_0000_0000, label, file);
-}
-
-fn comparisons(a: &[u8], twin: &[u8], other: &[u8], f: &[u8], short: &[u8]) {
-    compare(b"A with A", a, a);
-    compare(b"A with its twin that has names", a, twin);
-    compare(b"A with another order", a, other);
-    compare(b"A with F", a, f);
-    compare(b"A without its last byte with F", short, f);
-    compare(b"A with A without its last byte", a, short);
-}
-
-fn all_names(n: &[u8], m: &[u8]) {
-    names(b"N", n);
-    names(b"M", m);
-    names(b"N without its last byte", samples::first(n, 91));
-}
-
 fn main() {
     let a = samples::case_a();
     let n = samples::case_n();
@@ -191,12 +111,4 @@ fn main() {
     let m = samples::case_m();
     cases(&a, &samples::one_more(samples::case_a()), &f);
     readings(&a, &n, &f, &m);
-    all_names(&n, &m);
-    comparisons(
-        &a,
-        &samples::twin_of_a(),
-        &samples::other_order(),
-        &f,
-        samples::first(&a, 45),
-    );
 }

@@ -15,10 +15,10 @@ use Rattle.network.proofs.filter.pass.Statement.{statement}
 use Rattle.network.proofs.filter.pass.Tie as tie
 
 abbrev Inv-loop : tie.InvT-loop
-Inv-loop wishes groups n live goal best all kept₀ v₀ kept v = (v ≤ n) × (kept ≡ setOf v (keeps (listed n wishes []) (λ i. getD groups i 0) live goal))
+Inv-loop wishes groups n live goal best all want kept₀ v₀ kept v = (v ≤ n) × (kept ≡ setOf v (keeps (listed n wishes []) (λ i. getD groups i 0) live goal))
 
 abbrev μ-loop : tie.MeasureT-loop
-μ-loop wishes groups n live goal best all kept₀ v₀ kept v = n - v
+μ-loop wishes groups n live goal best all want kept₀ v₀ kept v = n - v
 
 contributions-requires : tie.Need-contributions-requires Inv-loop μ-loop
 contributions-requires c κs = search needs
@@ -29,6 +29,12 @@ sum-requires c κs =
     let small : a .goal < 2 ^ 64 = search needs in
     best-small (listed (a .n) (a .wishes .now) []) (λ i. getD (a .groups .now) i 0) (a .live) (a .goal) (c .before .contributions .result) (c .before .contributions .ensures) small
 
+count-requires : tie.Need-count-requires Inv-loop μ-loop
+count-requires c κs = search needs
+
+cast-want : tie.Need-cast-want Inv-loop μ-loop
+cast-want c = search needs
+
 loop-holds : tie.Need-loop-holds Inv-loop μ-loop
 unfolding setOf sumTo
 loop-holds c = (omega arith, refl)
@@ -37,23 +43,26 @@ shared-slice-read-j : tie.Need-shared-slice-read-j Inv-loop μ-loop
 shared-slice-read-j c = search needs
 
 cast-j : tie.Need-cast-j Inv-loop μ-loop
-cast-j c = let h = c .before .before .before .before .before .before .before .pre .2 (c .before .before .loop .v) (c .before .loop-test .taken) in search needs
+cast-j c = let h = c .before .before .before .before .before .before .before .before .pre .2 (c .before .before .loop .v) (c .before .loop-test .taken) in search needs
 
 mul-rest : tie.Need-mul-rest Inv-loop μ-loop
-mul-rest c = let h = c .before .before .before .before .before .before .before .pre .2 (c .before .before .loop .v) (c .before .loop-test .taken) in search needs
+mul-rest c = let h = c .before .before .before .before .before .before .before .before .pre .2 (c .before .before .loop .v) (c .before .loop-test .taken) in search needs
 
 array-read-rest : tie.Need-array-read-rest Inv-loop μ-loop
-array-read-rest c = let h = c .before .before .before .before .before .before .before .pre .2 (c .before .before .loop .v) (c .before .loop-test .taken) in search needs
+array-read-rest c = let h = c .before .before .before .before .before .before .before .before .pre .2 (c .before .before .loop .v) (c .before .loop-test .taken) in search needs
 
 sub-rest : tie.Need-sub-rest Inv-loop μ-loop
 sub-rest c =
-    let a = c .before .before .before .before .before .before .before .args in
-    let h = c .before .before .before .before .before .before .before .pre .2 (c .before .before .loop .v) (c .before .loop-test .taken) in
-    let e = others-left (listed (a .n) (a .wishes .now) []) (λ i. getD (a .groups .now) i 0) (a .live) (a .goal) (c .before .before .before .before .before .contributions .result) (c .before .before .before .sum .result) (getD (a .groups .now) (c .before .before .loop .v) 0) (c .before .before .before .before .before .before .before .pre .2) (c .before .before .before .before .before .before .before .pre .0) (c .before .before .before .before .before .contributions .ensures) (c .before .before .before .sum .ensures) h in
+    let a = c .before .before .before .before .before .before .before .before .args in
+    let h = c .before .before .before .before .before .before .before .before .pre .2 (c .before .before .loop .v) (c .before .loop-test .taken) in
+    let e = others-left (listed (a .n) (a .wishes .now) []) (λ i. getD (a .groups .now) i 0) (a .live) (a .goal) (c .before .before .before .before .before .before .contributions .result) (c .before .before .before .before .sum .result) (getD (a .groups .now) (c .before .before .loop .v) 0) (c .before .before .before .before .before .before .before .before .pre .2) (c .before .before .before .before .before .before .before .before .pre .0) (c .before .before .before .before .before .before .contributions .ensures) (c .before .before .before .before .sum .ensures .0) h in
     search needs
 
 stays-requires : tie.Need-stays-requires Inv-loop μ-loop
-stays-requires c κs = search needs
+stays-requires c κs =
+    let w = c .before .before .before .count .ensures .0 in
+    let h = c .before .before .before .before .sum .ensures .1 in
+    search needs
 
 more-if-requires : tie.Need-more-if-requires Inv-loop μ-loop
 more-if-requires c κs = search needs
@@ -66,17 +75,17 @@ loop-less c = search needs
 
 loop-again : tie.Need-loop-again Inv-loop μ-loop
 loop-again c =
-    let a = c .before .before .before .before .before .before .before .before .before .args in
+    let a = c .before .before .before .before .before .before .before .before .before .before .args in
     let l = c .before .before .before .before .loop in
     let N = listed (a .n) (a .wishes .now) [] in
     let k = getD (a .groups .now) (l .v) 0 in
-    let e = others-left N (λ i. getD (a .groups .now) i 0) (a .live) (a .goal) (c .before .before .before .before .before .before .before .contributions .result) (c .before .before .before .before .before .sum .result) k (c .before .before .before .before .before .before .before .before .before .pre .2) (c .before .before .before .before .before .before .before .before .before .pre .0) (c .before .before .before .before .before .before .before .contributions .ensures) (c .before .before .before .before .before .sum .ensures) (c .before .before .before .before .before .before .before .before .before .pre .2 (l .v) (c .before .before .before .loop-test .taken)) in
-    let left : c .before .before .before .before .before .sum .result - getD (c .before .before .before .before .before .before .before .contributions .result) k 0 ≡ others N (λ i. getD (a .groups .now) i 0) (a .live) (a .goal) k = omega (arith, e) in
-    (omega (arith, c .before .before .before .loop-test .taken), pass-turn N (λ i. getD (a .groups .now) i 0) (a .live) (a .goal) (l .kept) (l .v) (c .before .before .before .before .before .sum .result - getD (c .before .before .before .before .before .before .before .contributions .result) k 0) (c .more-if .result) (c .before .stays .result) (l .inv .1) left (c .before .stays .ensures) (c .more-if .ensures))
+    let e = others-left N (λ i. getD (a .groups .now) i 0) (a .live) (a .goal) (c .before .before .before .before .before .before .before .before .contributions .result) (c .before .before .before .before .before .before .sum .result) k (c .before .before .before .before .before .before .before .before .before .before .pre .2) (c .before .before .before .before .before .before .before .before .before .before .pre .0) (c .before .before .before .before .before .before .before .before .contributions .ensures) (c .before .before .before .before .before .before .sum .ensures .0) (c .before .before .before .before .before .before .before .before .before .before .pre .2 (l .v) (c .before .before .before .loop-test .taken)) in
+    let left : c .before .before .before .before .before .before .sum .result - getD (c .before .before .before .before .before .before .before .before .contributions .result) k 0 ≡ others N (λ i. getD (a .groups .now) i 0) (a .live) (a .goal) k = omega (arith, e) in
+    (omega (arith, c .before .before .before .loop-test .taken), pass-turn N (λ i. getD (a .groups .now) i 0) (a .live) (a .goal) (l .kept) (l .v) (c .before .before .before .before .before .before .sum .result - getD (c .before .before .before .before .before .before .before .before .contributions .result) k 0) (c .more-if .result) (c .before .stays .result) (l .inv .1) left (c .before .stays .ensures) (c .more-if .ensures))
 
 returns : tie.Need-returns Inv-loop μ-loop
 returns c =
-    let a = c .before .before .before .before .before .before .args in
+    let a = c .before .before .before .before .before .before .before .args in
     let l = c .before .loop in
     pass-end (listed (a .n) (a .wishes .now) []) (λ i. getD (a .groups .now) i 0) (a .live) (a .goal) (l .kept) (l .v) (l .inv .1) (omega (arith, l .inv .0, c .loop-test .left))
 
@@ -88,6 +97,8 @@ pass-spec =
     μ-loop
     contributions-requires
     sum-requires
+    count-requires
+    cast-want
     loop-holds
     shared-slice-read-j
     cast-j

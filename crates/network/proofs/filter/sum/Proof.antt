@@ -44,7 +44,7 @@ returns : tie.Need-returns Inv-loop μ-loop
 returns c =
     let l = c .before .loop in
     let e : l .j ≡ 64 = omega (arith, l .inv .0, c .loop-test .left) in
-    l .inv .2 ∙ ap (λ (m : ℕ). sumTo m (λ i. getD (c .before .before .args .best .now) i 0)) e
+    (l .inv .2 ∙ ap (λ (m : ℕ). sumTo m (λ i. getD (c .before .before .args .best .now) i 0)) e, omega (arith, l .inv .1))
 
 pub sum-spec : {M : Type 1} → statement M
 sum-spec =

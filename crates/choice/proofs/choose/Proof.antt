@@ -1,0 +1,82 @@
+-- `choice::choose` meets its contract.
+use borrow.Author.Needs.{needs}
+use mathlib.Core.Path.{sym, subst}
+use mathlib.Core.List.{List}
+use Prim.Native.Nat.{ℕ}
+use denote.Ref.{now}
+use lib.ListN.{getD}
+use Rattle.network.specs.Network.{listed}
+use Rattle.network.specs.Filter.{setAside}
+use Rattle.tables.specs.Tables.{transposed, Tabled}
+use Rattle.tables.proofs.TableLaws.{tables-right}
+use Rattle.choice.specs.Choice.{selection}
+use Rattle.choice.proofs.ChoiceLaws.{chosen-set, chosen-nothing}
+use Rattle.choice.proofs.AmongLaws.{among-found, aside-left}
+use Rattle.choice.proofs.choose.Statement.{statement}
+use Rattle.choice.proofs.choose.Tie as tie
+
+left-live-requires : tie.Need-left-live-requires
+left-live-requires c κs = search needs
+
+full-requires : tie.Need-full-requires
+full-requires c κs = search needs
+
+without-requires : tie.Need-without-requires
+without-requires c κs = search needs
+
+both-ways-requires : tie.Need-both-ways-requires
+both-ways-requires c κs = search needs
+
+transposed-requires : tie.Need-transposed-requires
+transposed-requires c κs = search needs
+
+smallest-requires : tie.Need-smallest-requires
+smallest-requires c κs =
+    let a = c .before .before .before .before .before .before .before .before .before .args in
+    subst (λ (t : List ℕ). Tabled 64 (now (a .wishes)) (c .before .before .before .both-ways .result) t) (sym (c .before .before .transposed .ensures))
+    (subst (λ (t : List ℕ). Tabled 64 (now (a .wishes)) t (transposed 64 (now (a .wishes)))) (sym (c .before .before .before .both-ways .ensures)) (tables-right 64 (now (a .wishes)) (now (a .clashes))))
+
+enum-known-found : tie.Need-enum-known-found
+enum-known-found c = search needs
+
+enum-told : tie.Need-enum-told
+enum-told c = search needs
+
+returns : tie.Need-returns
+returns c =
+    let s = c .before .before .before in
+    let e = s .before .before .before .before .before .before .before .before .before .before in
+    let a = e .args in
+    let group : ℕ → ℕ = λ u. getD (now (a .groups)) u 0 in
+    let r =
+    among-found 64 (a .n) (now (a .wishes)) (now (a .clashes)) group (now (a .goals)) (a .order) (a .floor) (e .pre .0) (e .pre .2) (e .pre .3) (s .before .before .before .before .before .before .before .left-live .ensures) (s .before .before .before .before .both-ways .ensures)
+    (s .smallest .ensures) in
+    chosen-set (selection (listed (a .n) (now (a .wishes)) (now (a .clashes))) (a .order) (a .floor)) r (c .before .found .given .1)
+    (aside-left (a .n) (now (a .wishes)) (now (a .clashes)) group (now (a .goals)) (s .before .before .before .before .before .before .full .ensures) (s .before .before .before .before .before .before .before .left-live .ensures) (s .before .before .before .before .before .without .ensures))
+
+returns-2 : tie.Need-returns-2
+returns-2 c =
+    let s = c .before .before in
+    let e = s .before .before .before .before .before .before .before .before .before .before in
+    let a = e .args in
+    let group : ℕ → ℕ = λ u. getD (now (a .groups)) u 0 in
+    let N = listed (a .n) (now (a .wishes)) (now (a .clashes)) in
+    let r =
+    among-found 64 (a .n) (now (a .wishes)) (now (a .clashes)) group (now (a .goals)) (a .order) (a .floor) (e .pre .0) (e .pre .2) (e .pre .3) (s .before .before .before .before .before .before .before .left-live .ensures) (s .before .before .before .before .both-ways .ensures)
+    (s .smallest .ensures) in
+    chosen-nothing (selection N (a .order) (a .floor)) (setAside N group (now (a .goals))) r (c .enum-told .given .1)
+
+pub choose-spec : {M : Type 1} → statement M
+choose-spec =
+    tie.close
+    (tie.spec
+    left-live-requires
+    full-requires
+    without-requires
+    both-ways-requires
+    transposed-requires
+    smallest-requires
+    enum-known-found
+    enum-told
+    returns
+    returns-2)

@@ -1,0 +1,3 @@
+-- The choice; and what the parts of the search promise each other.
+pub mod Choice
+pub mod Search

@@ -1,0 +1,136 @@
+// The choice over a mutex network: the smallest selection at or above a floor, with what the filter
+// set aside.
+ghost use mathlib.Core.Path.{_≡_};
+ghost use mathlib.Core.List.{[]};
+ghost use Prim.Native.Nat.{ℕ, _≤_, _<_};
+ghost use lib.ListN.{length, getD};
+ghost use Rattle.sets.specs.Sets.{full};
+ghost use Rattle.network.specs.Network.{listed};
+ghost use Rattle.network.specs.Groups.{Partition};
+ghost use Rattle.network.specs.Filter.{passes, GoalsWithin};
+ghost use Rattle.tables.specs.Tables.{Tabled};
+ghost use Rattle.choice.specs.Choice.{smallest, chosen, unaided, offered};
+ghost use Rattle.choice.specs.Search.{foundBy};
+
+mod find;
+mod least;
+
+use jobfile::ReadChoice;
+use network::filter;
+use network::partition;
+use sets::word;
+
+// A set of articles, or that there is none.
+pub enum Found {
+    Set(u64),
+    Nothing,
+}
+
+// A selection with the set aside, or that there is no selection.
+pub enum Choice {
+    Chosen(u64, u64),
+    Nothing,
+}
+
+// The smallest set of allowed articles, no two of which clash, that covers the need and whose number
+// is at or above the floor. The tables are those of the network.
+pub fn smallest(
+    wishes: &[u64; 64],
+    clashes: &[u64; 64],
+    carriers: &[u64; 64],
+    allowed: u64,
+    need: u64,
+    floor: u64,
+) -> Found
+    requires { ⌜ Tabled 64 (now wishes) (now clashes) (now carriers) ⌝ }
+    ensures { λ r. ⌜ r ≡ foundBy (smallest (listed 64 (now (wishes .entry)) (now (clashes .entry))) allowed need floor) ⌝ }
+{
+    least::seek(
+        wishes,
+        clashes,
+        carriers,
+        allowed,
+        need,
+        floor,
+        64,
+        0,
+        false,
+    )
+}
+
+// Goal i of the list.
+fn goal_at(goals: &[u64], i: usize) -> u64
+    requires { ⌜ i < length (now goals) ⌝ }
+    ensures { λ r. ⌜ r ≡ getD (now (goals .entry)) i 0 ⌝ }
+{
+    goals[i]
+}
+
+// The articles that are live after a pass for each goal, in turn.
+fn left_live(wishes: &[u64; 64], n: usize, groups: &[u8], goals: &[u64]) -> u64
+    requires { ⌜ (n ≤ 64) × (n ≤ length (now groups)) × ((u : ℕ) → u < n → getD (now groups) u 0 < n) ⌝ }
+    ensures { λ r. ⌜ r ≡ passes (listed n (now (wishes .entry)) []) (λ u. getD (now (groups .entry)) u 0) (full n) (now (goals .entry)) ⌝ }
+{
+    let mut live = word::full(n);
+    let mut i: usize = 0;
+    while i < goals.len() {
+        live = filter::pass(wishes, groups, n, live, goal_at(goals, i));
+        i += 1;
+    }
+    live
+}
+
+// The choice for an order. The search is among the articles that the filter leaves: every selection
+// lies within them.
+pub fn choose(
+    wishes: &[u64; 64],
+    clashes: &[u64; 64],
+    n: usize,
+    groups: &[u8],
+    goals: &[u64],
+    order: u64,
+    floor: u64,
+) -> Choice
+    requires { ⌜ (n ≤ 64) × (n ≤ length (now groups)) × Partition (listed n (now wishes) (now clashes)) (λ u. getD (now groups) u 0) × GoalsWithin order (now goals) ⌝ }
+    ensures { λ r. ⌜ r ≡ chosen (listed n (now (wishes .entry)) (now (clashes .entry))) (λ u. getD (now (groups .entry)) u 0) (now (goals .entry)) order floor ⌝ }
+{
+    let live = left_live(wishes, n, groups, goals);
+    let aside = word::without(word::full(n), live);
+    let both = tables::both_ways(clashes);
+    let carriers = tables::transposed(wishes);
+    let found = smallest(wishes, &both, &carriers, live, order, floor);
+    match found {
+        Found::Set(x) => Choice::Chosen(x, aside),
+        Found::Nothing => Choice::Nothing,
+    }
+}
+
+// The choice for an order by our own partition, with the whole order as the only goal.
+pub fn choose_alone(
+    wishes: &[u64; 64],
+    clashes: &[u64; 64],
+    n: usize,
+    order: u64,
+    floor: u64,
+) -> Choice
+    requires { ⌜ n ≤ 64 ⌝ }
+    ensures { λ r. ⌜ r ≡ unaided (listed n (now (wishes .entry)) (now (clashes .entry))) order floor ⌝ }
+{
+    let mut groups: [u8; 64] = [0; 64];
+    partition::partition(clashes, n, &mut groups);
+    let goals = [order];
+    if order == 0 {
+        return choose(wishes, clashes, n, &groups, &goals[0..0], order, floor);
+    }
+    choose(wishes, clashes, n, &groups, &goals, order, floor)
+}
+
+// What the program chooses for an order.
+pub fn offer(job: ReadChoice, order: u64) -> Choice
+    requires { ⌜ job .articles ≤ 64 ⌝ }
+    ensures { λ r. ⌜ r ≡ offered (listed (job .articles) (job .wishes) (job .clashes)) order ⌝ }
+{
+    let wishes = job.wishes;
+    let clashes = job.clashes;
+    choose_alone(&wishes, &clashes, job.articles, order, 0)
+}

@@ -1,0 +1,2 @@
+-- Theorems on the tables of a network.
+pub mod TableLaws

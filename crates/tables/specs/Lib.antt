@@ -1,0 +1,2 @@
+-- The tables of a network.
+pub mod Tables
