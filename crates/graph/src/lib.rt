@@ -1,0 +1,1 @@
+// The planning graph is definitions and theorems; `layering` makes its layers.

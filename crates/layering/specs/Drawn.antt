@@ -1,0 +1,34 @@
+-- What the code's types mean.
+use mathlib.Core.Bool.{Bool, not, _&&_, _||_, cond}
+use mathlib.Core.List.{List}
+use Prim.Native.Nat.{ℕ, _-_, _^_}
+use lib.Dec.{ltb}
+use lib.ListN.{getD}
+use Rattle.sets.specs.Ranges.{given, everyTo}
+use Rattle.sets.specs.Sets.{member, part, meets}
+use Rattle.jobfile.specs.declared.ReadFitting.{ReadFitting}
+use Rattle.jobfile.specs.Answers.{padded}
+use Rattle.graph.specs.Rounds.{Fitting, listedSteps}
+use Rattle.graph.specs.Layers.{Layer}
+
+-- a layer in words
+abbrev pub layer : ℕ → List ℕ → Layer
+layer members words = record { members = members; words = words }
+
+-- a layer, its words in an array of this size
+abbrev pub roomy : ℕ → Layer → Layer
+roomy size L = record { members = L .members; words = padded size (L .words) }
+
+-- a table of steps as one of vertices: a keeper has its own fact, or nothing
+abbrev pub vertexWords : ℕ → Bool → List ℕ → ℕ → ℕ
+vertexWords w kept steps x = cond (ltb x w) (given kept (2 ^ x)) (getD steps (x - w) 0)
+
+-- the fitting of a file as read
+abbrev pub fittingIn : ReadFitting → Fitting
+fittingIn job =
+    record { count = job .steps; facts = job .facts; steps = listedSteps (job .needs) (job .gives) (job .takes); start = job .start; goal = job .goal; horizon = job .horizon }
+
+-- two facts are mutex, by the vertices that give each and the mutex words of these
+abbrev pub excluding : List ℕ → List ℕ → ℕ → ℕ → Bool
+excluding givers words p q =
+    everyTo 64 (λ x. not (member (getD givers p 0) x) || part (getD givers q 0) (getD words x 0)) && not (meets (getD givers p 0) (getD givers q 0))

@@ -1,0 +1,2 @@
+-- What the code's types mean.
+pub mod Drawn
