@@ -1,8 +1,8 @@
 -- From what a file was read as to what the calls answer. Assumes nothing.
 use mathlib.Core.Path.{_≡_, refl, ap, ap₂, sym, _∙_, subst}
 use mathlib.Core.Bool.{Bool, true, false, _&&_}
-use mathlib.Core.List.{List, [], _∷_, map}
-use Prim.Native.Nat.{ℕ, suc, _≤_}
+use mathlib.Core.List.{List, [], map}
+use Prim.Native.Nat.{ℕ, _≤_}
 use native.Mathlib.Omega.{arith}
 use lib.Dec.{eqb}
 use lib.ListN.{length, getD, take, drop}
@@ -13,9 +13,10 @@ use Rattle.reading.specs.Got.{Got, got, refused}
 use Rattle.jobfile.specs.declared.Verdict.{Verdict}
 use Rattle.jobfile.specs.declared.Verdict.the-variants as Verdict
 use Rattle.jobfile.specs.declared.ReadChoice.{ReadChoice}
-use Rattle.jobfile.specs.Job.{Entry, Job, column, size, order, wishes, clashes}
+use Rattle.jobfile.specs.Job.{Job, column, size, order, wishes, clashes}
 use Rattle.jobfile.specs.Answers.{choiceOf, fittingOf, spotOf, spotIn, Few}
 use Rattle.jobfile.proofs.NamingLaws.{mapGot, bytesAt, entryBy, jobBy, names-same}
+use Rattle.layering.proofs.ReadLaws.{column-by, column-length}
 use Rattle.calls.specs.declared.Found.{Found}
 use Rattle.calls.specs.declared.Found.the-variants as Found
 use Rattle.calls.specs.declared.Compared.{Compared}
@@ -80,15 +81,6 @@ find-is f name g t n starts lens en h =
     ∙ sym (ap (λ x. findOf (mapGot (jobBy f) x) name) (t .is))
 
 -- ---- comparing
-
--- what names are taken for does not touch the sets
-column-by : (f : List ℕ) (k : ℕ) (entries : List (Entry Spot)) → column k (map (entryBy f) entries) ≡ column k entries
-column-by f k [] = refl
-column-by f k (e ∷ es) = ap (λ (l : List ℕ). getD (e .sets) k 0 ∷ l) (column-by f k es)
-
-column-length : (k : ℕ) (entries : List (Entry Spot)) → length (column k entries) ≡ length entries
-column-length k [] = refl
-column-length k (e ∷ es) = ap suc (column-length k es)
 
 alike-by : (f f′ : List ℕ) (a b : Job Spot) → alike (jobBy f a) (jobBy f′ b) ≡ alike a b
 alike-by f f′ a b = rw (column-by f 0 (a .entries), column-by f 1 (a .entries), column-by f′ 0 (b .entries), column-by f′ 1 (b .entries))

@@ -1,0 +1,2 @@
+-- Plan extraction.
+pub mod Extraction

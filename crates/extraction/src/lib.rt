@@ -1,0 +1,134 @@
+// Plan extraction over round layers, working back from the goal one round at a time.
+ghost use mathlib.Core.Path.{_≡_};
+ghost use mathlib.Core.Bool.{_&&_};
+ghost use Prim.Native.Nat.{_/_, _^_, _≤_};
+ghost use lib.Dec.{eqb};
+ghost use lib.ListN.{length};
+ghost use Rattle.sets.specs.Sets.{_⊆_};
+ghost use Rattle.extraction.specs.Extraction.{graph, Fine, Nogoods, Extracted};
+
+mod layer;
+mod nogoods;
+
+use choice::Found;
+use sets::word;
+
+// A plan, or facts that are refuted.
+pub enum Outcome {
+    Made,
+    Refuted(u64),
+}
+
+// The steps among the vertices of a selection, keepers left out.
+fn steps_of(selection: u64) -> u32
+    ensures { λ r. ⌜ r ≡ selection / 2 ^ 32 ⌝ }
+{
+    (selection >> 32) as u32
+}
+
+// Whether the box is the whole: what is refuted in it is refuted altogether.
+fn whole(may: u64, all: u64, must: u64) -> bool
+    ensures { λ r. ⌜ r ≡ (eqb may all && eqb must 0) ⌝ }
+{
+    if may != all {
+        return false;
+    }
+    must == 0
+}
+
+// A plan of k rounds for the goal, in the words 0 to k - 1. Or facts of the goal, with those of `why`,
+// that no selection of round layer k can be worked back for whose needs lie in `may` and include
+// `must`. Where the needs of a selection are refuted by the facts c, every other selection either needs
+// all of c, too, and is refuted with it, or lacks one of them, and lies in a smaller box.
+pub fn extract(
+    needs: &[u64; 64],
+    gives: &[u64; 64],
+    carriers: &[u64; 64],
+    members: &[u64],
+    words: &[u64],
+    start: u64,
+    all: u64,
+    plan: &mut [u32],
+    table: &mut [u64],
+    k: usize,
+    goal: u64,
+    may: u64,
+    must: u64,
+    why: u64,
+) -> Outcome
+    requires { ⌜ Fine (graph (now needs) (now gives) (now members) (now words) start all) (now carriers) × Nogoods (graph (now needs) (now gives) (now members) (now words) start all) (now table) ⌝ }
+    requires { ⌜ (k ≤ length (now members)) × (k ≤ length (now plan)) × (goal ⊆ all) × (may ⊆ all) × (why ⊆ goal) ⌝ }
+    ensures { λ r. ⌜ Extracted (graph (now (needs .entry)) (now (gives .entry)) (now (members .entry)) (now (words .entry)) start all) k goal may must why (now (plan .exit)) r × Nogoods (graph (now (needs .entry)) (now (gives .entry)) (now (members .entry)) (now (words .entry)) start all) (now (table .exit)) ⌝ }
+{
+    if k == 0 {
+        let lack = word::without(goal, start);
+        if lack == 0 {
+            return Outcome::Made;
+        }
+        return Outcome::Refuted(word::more(why, word::lowest(lack)));
+    }
+    let first = whole(may, all, must);
+    let seen = nogoods::lookup(table, k, goal, first);
+    if let Outcome::Refuted(c) = seen {
+        return Outcome::Refuted(c | why);
+    }
+    let j = k - 1;
+    let open = layer::open_to(needs, members[j], may);
+    let picked = layer::ask(gives, carriers, words, j, open, goal);
+    let Found::Set(selection) = picked else {
+        let e = layer::explain(gives, carriers, words, j, open, goal, why);
+        nogoods::store(table, k, e, first);
+        return Outcome::Refuted(e);
+    };
+    let wanted = word::gather(needs, selection);
+    let below = extract(
+        needs,
+        gives,
+        carriers,
+        members,
+        words,
+        start,
+        all,
+        plan,
+        table,
+        j,
+        wanted,
+        all,
+        0,
+        0,
+    );
+    let Outcome::Refuted(c) = below else {
+        plan[j] = steps_of(selection);
+        return Outcome::Made;
+    };
+    let mut left = word::without(c, must);
+    let mut kept = must;
+    let mut reason = why;
+    while left != 0 {
+        let f = word::lowest(left);
+        let turn = extract(
+            needs,
+            gives,
+            carriers,
+            members,
+            words,
+            start,
+            all,
+            plan,
+            table,
+            k,
+            goal,
+            word::less(may, f),
+            kept,
+            reason,
+        );
+        let Outcome::Refuted(e) = turn else {
+            return Outcome::Made;
+        };
+        reason = e;
+        kept = word::more(kept, f);
+        left = word::less(left, f);
+    }
+    nogoods::store(table, k, reason, first);
+    Outcome::Refuted(reason)
+}

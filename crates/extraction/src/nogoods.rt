@@ -1,0 +1,61 @@
+// The table of nogoods: facts that so many rounds do not reach. Entry 0 says where the last was stored.
+ghost use Prim.Native.Nat.{_^_, _≤_, _<_};
+ghost use Rattle.extraction.specs.Extraction.{Noted, StoredIf};
+use crate::Outcome;
+use sets::word;
+
+// An entry for k rounds or more whose facts are all among these. Nothing is looked up where `on` is
+// false.
+pub fn lookup(table: &[u64], k: usize, facts: u64, on: bool) -> Outcome
+    ensures { λ r. ⌜ Noted (now (table .entry)) k facts r ⌝ }
+{
+    if !on {
+        return Outcome::Made;
+    }
+    let mut i: usize = 1;
+    while i < table.len() {
+        let word = table[i];
+        if word == 0 {
+            return Outcome::Made;
+        }
+        let r = (word >> 32) as usize;
+        if k <= r {
+            let c = word % 0x1_0000_0000;
+            if word::without(c, facts) == 0 {
+                return Outcome::Refuted(c);
+            }
+        }
+        i += 1;
+    }
+    Outcome::Made
+}
+
+// The place after the last, from 1 to n - 1 and from the front again.
+fn after(last: u64, n: usize) -> usize
+    requires { ⌜ 2 ≤ n ⌝ }
+    ensures { λ r. ⌜ (0 < r) × (r < n) ⌝ }
+{
+    if last < (n as u64) - 1 {
+        return (last as usize) + 1;
+    }
+    1
+}
+
+// Enters that k rounds do not reach these facts, over the oldest entry where the table is full. Nothing
+// is entered where `on` is false.
+pub fn store(table: &mut [u64], k: usize, facts: u64, on: bool)
+    requires { ⌜ (k ≤ 16) × (facts < 2 ^ 32) ⌝ }
+    ensures { λ r. ⌜ StoredIf on k facts (now (table .entry)) (now (table .exit)) ⌝ }
+{
+    if !on {
+        return;
+    }
+    let n = table.len();
+    if n < 2 {
+        return;
+    }
+    let last = table[0];
+    let at = after(last, n);
+    table[0] = at as u64;
+    table[at] = (k as u64) * 0x1_0000_0000 + facts;
+}

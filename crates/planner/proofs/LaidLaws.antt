@@ -1,0 +1,88 @@
+-- The round layers in flat tables: a row is put in its place, a turn adds a layer. Assumes nothing.
+use mathlib.Core.Path.{_≡_, sym, ap, subst, _∙_}
+use mathlib.Core.List.{List, _++_, append-assoc}
+use Prim.Native.Nat.{ℕ, _+_, _*_, _≤_, _<_}
+use native.Mathlib.Numerals.{add-one}
+use native.Mathlib.Omega.{arith}
+use lib.ListN.{length, getD, take, drop, set, replicate, length-set, length-replicate}
+use lib.Seq.{length-take-le, take-all, take-add, take-take, take-append-le, drop-at, getD-set-same, getD-set-other, paste, paste-suc, length-paste, take-paste}
+use Rattle.sets.proofs.Ranges.{one-more}
+use Rattle.graph.specs.Rounds.{Fitting}
+use Rattle.graph.specs.Layers.{Layer}
+use Rattle.layering.specs.Drawn.{layer}
+use Rattle.extraction.specs.Extraction.{rowOf}
+use Rattle.planner.specs.Tabulated.{roundAfter, Laid, Put}
+
+-- ---- a row
+
+-- m words from n on are what is left of the first n + m: so a row is known by the front that it ends
+cut : (n m : ℕ) (l : List ℕ) → n ≤ length l → take m (drop n l) ≡ drop n (take (n + m) l)
+cut n m l h = sym (ap (drop n) (take-add n m l) ∙ drop-at (take n l) (take m (drop n l)) n (length-take-le n l h))
+
+-- in front of its place a copy changes nothing
+paste-front : (k at n : ℕ) (d s : List ℕ) → k ≤ at → at ≤ length d → take k (paste d at s n) ≡ take k d
+paste-front k at n d s l h =
+    ap (take k) (append-assoc (take at d) (take n s) (drop (at + n) d))
+    ∙ take-append-le k (take at d) (take n s ++ drop (at + n) d) (omega (arith, length-take-le at d h))
+    ∙ take-take k at d l
+
+module _ (j : ℕ) (row old : List ℕ) (wide : length row ≡ 64) (room : 64 * j + 64 ≤ length old) where
+  -- one word more
+  pub put-turn : (i : ℕ) (words : List ℕ) → i < 64 → words ≡ paste old (64 * j) row i → set words (64 * j + i) (getD row i 0) ≡ paste old (64 * j) row (i + 1)
+  put-turn i words l e =
+      rw add-one (ap (λ (ws : List ℕ). set ws (64 * j + i) (getD row i 0)) e ∙ paste-suc old (64 * j) row i 0 (omega arith) (omega arith))
+
+  same-many : length (paste old (64 * j) row 64) ≡ length old
+  same-many = length-paste old (64 * j) row 64 room (omega arith)
+
+  -- then the row stands in its place, since what comes before it has the length it should
+  here : rowOf (paste old (64 * j) row 64) j ≡ row
+  unfolding rowOf
+  here =
+      cut (64 * j) 64 (paste old (64 * j) row 64) (omega (arith, same-many))
+      ∙ ap (drop (64 * j)) (take-paste old (64 * j) row 64 (omega arith) (omega arith))
+      ∙ drop-at (take (64 * j) old) (take 64 row) (64 * j) (length-take-le (64 * j) old (omega arith))
+      ∙ take-all 64 row (omega arith)
+
+  -- and the rows in front of it end before it begins
+  before : (i : ℕ) → i < j → rowOf (paste old (64 * j) row 64) i ≡ rowOf old i
+  unfolding rowOf
+  before i l =
+      cut (64 * i) 64 (paste old (64 * j) row 64) (omega (arith, same-many))
+      ∙ ap (drop (64 * i)) (paste-front (64 * i + 64) (64 * j) 64 old row (omega arith) (omega arith))
+      ∙ sym (cut (64 * i) 64 old (omega arith))
+
+  -- after the last word
+  pub put-end : (i : ℕ) (words : List ℕ) → i ≡ 64 → words ≡ paste old (64 * j) row i → Put j row old words
+  put-end i words z e =
+      subst (λ (ws : List ℕ). Put j row old ws) (sym (e ∙ ap (paste old (64 * j) row) z)) (record { many = same-many; here = here; before = before })
+
+-- ---- all layers
+
+-- before the first turn no layer stands in the tables
+pub laid-none : (F : Fitting) → Laid F 0 (replicate 16 0) (replicate 1024 0)
+laid-none F = record {
+  few = length-replicate {A = ℕ} 16 0;
+  many = length-replicate {A = ℕ} 1024 0;
+  vertices = λ i l. absurd (omega arith);
+  rows = λ i l. absurd (omega arith);
+}
+
+-- a turn adds its own layer, and those below it stand where they stood
+pub laid-turn : (F : Fitting) (j m : ℕ) (row members words new : List ℕ) → j < 16 → Laid F j members words → layer m row ≡ roundAfter F j → Put j row words new
+    → Laid F (j + 1) (set members j m) new
+laid-turn F j m row members words new room L e p = record {
+  few = length-set members j m ∙ L .few;
+  many = p .many ∙ L .many;
+  vertices =
+      one-more (λ i. getD (set members j m) i 0 ≡ roundAfter F i .members) j
+      (λ i l. getD-set-other members j i m 0 (λ z. let f : ⊥ = omega arith in f) ∙ L .vertices i l)
+      (getD-set-same members j m 0 (omega (arith, L .few)) ∙ ap (λ (r : Layer). r .members) e);
+  rows = one-more (λ i. rowOf new i ≡ roundAfter F i .words) j (λ i l. p .before i l ∙ L .rows i l) (p .here ∙ ap (λ (r : Layer). r .words) e);
+}
+
+-- after the last turn all layers stand there
+pub laid-end : (F : Fitting) (j h : ℕ) (members words : List ℕ) → j ≡ h → Laid F j members words → Laid F h members words
+laid-end F j h members words e L = subst (λ (n : ℕ). Laid F n members words) e L
+
+-- ---- the words of a plan

@@ -1,0 +1,3 @@
+-- What the planner answers; and the tables that it works on.
+pub mod Planner
+pub mod Tabulated

@@ -1,0 +1,49 @@
+// The planner: the fewest rounds in which the goal of a fitting can be reached, and the rounds of such a
+// plan.
+ghost use mathlib.Core.Path.{_≡_};
+ghost use Prim.Native.Nat.{_≤_};
+ghost use lib.ListN.{length};
+ghost use Rattle.graph.specs.Rounds.{fewest};
+ghost use Rattle.graph.specs.Back.{Sized};
+ghost use Rattle.layering.specs.Drawn.{fittingIn};
+ghost use Rattle.planner.specs.Planner.{plannedBy, Words};
+
+mod layers;
+mod search;
+
+use jobfile::ReadFitting;
+
+// How many rounds a plan has, or that there is no plan.
+pub enum Planned {
+    Rounds(usize),
+    Nothing,
+}
+
+// A plan with the fewest rounds within the horizon, its rounds in the words in front; or that there is
+// none, and nothing is written. Which of the shortest plans it is, is free.
+pub fn plan(job: ReadFitting, out: &mut [u32]) -> Planned
+    requires { ⌜ Sized 32 (fittingIn job) × (job .horizon ≤ 16) × (job .horizon ≤ length (now out)) ⌝ }
+    ensures { λ r. ⌜ r ≡ plannedBy (fewest (fittingIn job) (job .horizon)) ⌝ }
+    ensures { λ r. ⌜ Words (fittingIn job) (now (out .entry)) (now (out .exit)) r ⌝ }
+{
+    let a = job.needs;
+    let b = job.gives;
+    let needs = layering::with_keepers(&a);
+    let gives = layering::with_keepers(&b);
+    let carriers = tables::transposed(&gives);
+    let made = layers::layers(job);
+    let members = made.members;
+    let words = made.words;
+    let h = job.horizon;
+    search::shortest(
+        &needs,
+        &gives,
+        &carriers,
+        &members[0..h],
+        &words,
+        job.start,
+        0xffff_ffff,
+        job.goal,
+        out,
+    )
+}
