@@ -257,10 +257,48 @@ CASES = [
 ]
 
 
+# Rounds that are a plan, and such that are none
+
+TRIED = [
+    ("F", F, [[0], [1, 2]]),
+    ("F", F, [[1, 2], [0]]),
+    ("F", F, [[0, 1, 2]]),
+    ("F", F, [[0], [1]]),
+    ("F", F, [[0]]),
+    ("F", F, [[0, 3], [1, 2]]),
+    ("F", F, []),
+    ("G", G, [[1], [0]]),
+    ("G", G, [[0], [1]]),
+    ("G", G, [[0, 1]]),
+]
+
+
+def is_plan(job, rounds):
+    """By the rules, over Python's own sets: each round in turn, then the goal."""
+    facts = set(job.start)
+    for round in rounds:
+        if any(a >= len(job.steps) for a in round):
+            return False
+        steps = [job.steps[a] for a in round]
+        for n, one in enumerate(steps):
+            others = steps[:n] + steps[n + 1 :]
+            if not set(one.needs) <= facts or any(set(one.takes) & (set(b.needs) | set(b.gives)) for b in others):
+                return False
+        facts = facts.difference(*(s.takes for s in steps)).union(*(s.gives for s in steps))
+    return set(job.goal) <= facts
+
+
+def tried(label, job, rounds):
+    by = ", then ".join(" ".join(map(str, round)) for round in rounds) or "no round"
+    return f"{label} by {by}: plan {'holds' if is_plan(job, rounds) else 'fails'}"
+
+
 # Printing
 
 
 def lines():
+    for label, job, rounds in TRIED:
+        yield tried(label, job, rounds)
     for case in CASES:
         found = outcome(plan, written(case.job), case.words)
         if isinstance(found, str):

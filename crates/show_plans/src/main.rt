@@ -233,7 +233,36 @@ fn drawn(seed: u64) -> Job {
     job
 }
 
+// Whether two rounds, or the first of them, are a plan: most of these are none.
+fn judge(label: &[u8], job: Job, first: u32, second: u32, l: usize) {
+    let mut words = trials::marked();
+    words[0] = first;
+    words[1] = second;
+    print::say(label);
+    if rounds::plan_holds(job, &words, l) {
+        print::say(b": plan holds\n");
+    } else {
+        print::say(b": plan fails\n");
+    }
+}
+
+fn judged() {
+    let f = like_f(3, 1, 12);
+    judge(b"F by 0, then 1 2", f, 1, 6, 2);
+    judge(b"F by 1 2, then 0", f, 6, 1, 2);
+    judge(b"F by 0 1 2", f, 7, 0, 1);
+    judge(b"F by 0, then 1", f, 1, 2, 2);
+    judge(b"F by 0", f, 1, 6, 1);
+    judge(b"F by 0 3, then 1 2", f, 9, 6, 2);
+    judge(b"F by no round", f, 1, 6, 0);
+    let g = case_g();
+    judge(b"G by 1, then 0", g, 2, 1, 2);
+    judge(b"G by 0, then 1", g, 1, 2, 2);
+    judge(b"G by 0 1", g, 3, 0, 1);
+}
+
 fn main() {
+    judged();
     cases();
     goals();
     lacks();
