@@ -207,12 +207,6 @@ def draws(numbers, count, bound):
     return {next(numbers) % bound for _ in range(count)}
 
 
-def drawn(seed):
-    numbers = generator(seed)
-    start, goal = draws(numbers, 3, 12), draws(numbers, 3, 12)
-    return Fitting(12, 16, start, goal, [step(*(draws(numbers, count, 12) for count in (2, 2, 3))) for _ in range(12)])
-
-
 Case = namedtuple("Case", "label job words in_full", defaults=(16, False))
 
 F = like_f(3, {0}, {2, 3})
@@ -252,8 +246,6 @@ CASES = [
     Case("5 robots on a full ring, 1 place on", robots(5, [1, 2, 3, 4, 0])),
     Case("16 lamps, 0 3 6 and 11 lit", lamps((6, 10), {0, 3, 6, 11})),
     Case("16 lamps, 0 3 6 and 8 lit", lamps((6, 10), {0, 3, 6, 8})),
-    Case("drawn, 12 steps", drawn(88172645463325333)),
-    Case("drawn, 12 other steps", drawn(88172645463325310)),
 ]
 
 

@@ -147,6 +147,8 @@ def second_program():
         name = f"show_{script.stem}"
         if name not in programs() and script.stem in imported:
             continue  # what several of them share
+        if script.stem in programs():
+            continue  # it runs a program that takes input: kitchen_prints
         demand(name in programs(), f"reference/{script.name} is about a program {name}, which is not there")
         expected = subprocess.run([sys.executable, "-B", str(script)], stdin=subprocess.DEVNULL, capture_output=True, text=True)
         demand(expected.returncode == 0, f"reference/{script.name}: " + expected.stderr.strip())
@@ -160,6 +162,17 @@ def second_program():
         compared += len(theirs)
     demand(compared, "reference/ has no program")
     return compared
+
+
+def kitchen_prints():
+    """What kitchen prints of many files, good, damaged and cut, is what reference/kitchen.py says; every outcome is among them."""
+    run = subprocess.run([sys.executable, "-B", "reference/kitchen.py", "target/bin/kitchen"], stdin=subprocess.DEVNULL, capture_output=True, text=True)
+    demand(run.returncode == 0, "reference/kitchen.py: " + (run.stdout + run.stderr).strip())
+    counts = {name.strip(): int(count) for name, count in re.findall(r"([a-z0-9 ]+): (\d+)", run.stdout)}
+    outcomes = ["chosen", "planned", *(f"refused {n}" for n in (1, 2, 3, 4, 5, 6, 7, 8, 14, 15))]
+    missing = [name for name in outcomes if not counts.get(name)]
+    demand(not missing, "no file came out as " + ", ".join(missing))
+    return sum(counts.values())
 
 
 def small_stack():
@@ -183,7 +196,7 @@ def snapshot():
     return seen
 
 
-CHECKS = [prove_and_run, refused_for_a_fact, layout, nothing_foreign, assumptions_as_stated, trace, documents, second_program, small_stack]
+CHECKS = [prove_and_run, refused_for_a_fact, layout, nothing_foreign, assumptions_as_stated, trace, documents, second_program, kitchen_prints, small_stack]
 
 
 def main():

@@ -1,30 +1,29 @@
--- From what a file was read as to what the calls answer. Assumes nothing.
-use mathlib.Core.Path.{_≡_, refl, ap, ap₂, sym, _∙_, subst}
-use mathlib.Core.Bool.{Bool, true, false, _&&_}
-use mathlib.Core.List.{List, [], map}
-use Prim.Native.Nat.{ℕ, _≤_}
+-- From what a file was read as to the job that it states: what every call begins with. Assumes nothing.
+use mathlib.Core.Path.{_≡_, refl, ap, sym, _∙_, subst}
+use Prim.Native.Nat.{ℕ}
+use mathlib.Core.Bool.{Bool}
+use mathlib.Core.List.{List}
 use native.Mathlib.Omega.{arith}
-use lib.Dec.{eqb}
-use lib.ListN.{length, getD, take, drop}
-use borrow.Author.Tests.{eqb-true}
 use Rattle.reading.specs.declared.Refusal.{Refusal}
 use Rattle.reading.specs.declared.Spot.{Spot}
 use Rattle.reading.specs.Got.{Got, got, refused}
+use Rattle.reading.specs.Items.{spots}
 use Rattle.jobfile.specs.declared.Verdict.{Verdict}
 use Rattle.jobfile.specs.declared.Verdict.the-variants as Verdict
 use Rattle.jobfile.specs.declared.ReadChoice.{ReadChoice}
-use Rattle.jobfile.specs.Job.{Job, column, size, order, wishes, clashes}
-use Rattle.jobfile.specs.Answers.{choiceOf, fittingOf, spotOf, spotIn, Few}
-use Rattle.jobfile.proofs.NamingLaws.{mapGot, bytesAt, entryBy, jobBy, names-same}
-use Rattle.layering.proofs.ReadLaws.{column-by, column-length}
-use Rattle.calls.specs.declared.Found.{Found}
-use Rattle.calls.specs.declared.Found.the-variants as Found
-use Rattle.calls.specs.declared.Compared.{Compared}
-use Rattle.calls.specs.declared.Compared.the-variants as Compared
-use Rattle.calls.specs.Same.{sameList, alike}
-use Rattle.calls.specs.Find.{searchOf, findOf}
-use Rattle.calls.specs.Compare.{comparedBy, compareOf}
-use Rattle.calls.proofs.SameLaws.{padded-same, search-cong}
+use Rattle.jobfile.specs.declared.ReadFitting.{ReadFitting}
+use Rattle.jobfile.specs.Job.{Job, order}
+use Rattle.jobfile.specs.Answers as Answers
+use Rattle.jobfile.specs.Answers.{choiceOf, Few, ChoiceBounds, FittingBounds}
+use Rattle.jobfile.specs.Read.{read, readJob, choices, fittings}
+use Rattle.jobfile.proofs.NamingLaws.{mapGot, jobBy, read-same}
+use Rattle.network.specs.Network.{networkOf}
+use Rattle.graph.specs.Rounds.{fittingOf}
+use Rattle.layering.specs.Drawn.{fittingIn}
+use Rattle.expansion.proofs.ReadLaws.{fitting-read}
+use Rattle.lending.specs.Answers.{Answer, refusal, onJob}
+use Rattle.lending.specs.Tests.{networkIn}
+use Rattle.lending.proofs.TestLaws.{network-same}
 
 -- ---- what a verdict tells of a reading
 
@@ -43,7 +42,7 @@ choice-verdict : (g : Got (Job Spot)) → choiceOf g .verdict ≡ verdictOf g
 choice-verdict (refused reason place) = refl
 choice-verdict (got job end) = refl
 
-fitting-verdict : (g : Got (Job Spot)) → fittingOf g .verdict ≡ verdictOf g
+fitting-verdict : (g : Got (Job Spot)) → Answers.fittingOf g .verdict ≡ verdictOf g
 fitting-verdict (refused reason place) = refl
 fitting-verdict (got job end) = refl
 
@@ -58,59 +57,60 @@ down (got job end) e = let z : _≡_ {A = ℕ} 0 1 = cc in absurd (omega arith)
 pub choice-taken : (g : Got (Job Spot)) {v : Verdict} → v ≡ choiceOf g .verdict → v ≡ Verdict.Accepted → Taken g
 choice-taken g p q = taken g (sym (choice-verdict g) ∙ sym p ∙ q)
 
-pub choice-down : (g : Got (Job Spot)) {v : Verdict} {r : Refusal} → v ≡ choiceOf g .verdict → v ≡ Verdict.Refused r → g ≡ refused (r .reason) (r .place)
-choice-down g p q = down g (sym (choice-verdict g) ∙ sym p ∙ q)
-
-pub fitting-taken : (g : Got (Job Spot)) {v : Verdict} → v ≡ fittingOf g .verdict → v ≡ Verdict.Accepted → Taken g
+pub fitting-taken : (g : Got (Job Spot)) {v : Verdict} → v ≡ Answers.fittingOf g .verdict → v ≡ Verdict.Accepted → Taken g
 fitting-taken g p q = taken g (sym (fitting-verdict g) ∙ sym p ∙ q)
 
-pub fitting-down : (g : Got (Job Spot)) {v : Verdict} {r : Refusal} → v ≡ fittingOf g .verdict → v ≡ Verdict.Refused r → g ≡ refused (r .reason) (r .place)
-fitting-down g p q = down g (sym (fitting-verdict g) ∙ sym p ∙ q)
+-- ---- files that are refused
 
--- ---- finding
+-- what was read with the names as spots, with the names as bytes
+refused-same : (f : List ℕ) (takes : ℕ → Bool) {r : Refusal} → read spots takes f ≡ refused (r .reason) (r .place) → readJob takes f ≡ refused (r .reason) (r .place)
+refused-same f takes e = read-same f takes ∙ ap (mapGot (jobBy f)) e
 
-pub find-refused : (f name : List ℕ) (g : Got (Job Spot)) {r : Refusal} → g ≡ refused (r .reason) (r .place) → Found.Refused r ≡ findOf (mapGot (jobBy f) g) name
-find-refused f name g e = sym (ap (λ x. findOf (mapGot (jobBy f) x) name) e)
+pub choice-down : (f : List ℕ) {v : Verdict} {r : Refusal} → v ≡ choiceOf (read spots choices f) .verdict → v ≡ Verdict.Refused r → readJob choices f ≡ refused (r .reason) (r .place)
+choice-down f p q = refused-same f choices (down (read spots choices f) (sym (choice-verdict (read spots choices f)) ∙ sym p ∙ q))
 
-pub find-is : (f name : List ℕ) (g : Got (Job Spot)) (t : Taken g) (n : ℕ) (starts lens : List ℕ) → n ≡ size (t .job) → ((i : ℕ) → spotOf starts lens i ≡ spotIn g i)
-    → searchOf name n (λ i. take (getD lens i 0) (drop (getD starts i 0) f)) ≡ findOf (mapGot (jobBy f) g) name
-find-is f name g t n starts lens en h =
-    ap (λ (k : ℕ). searchOf name k (λ i. take (getD lens i 0) (drop (getD starts i 0) f))) en
-    ∙ search-cong name (size (t .job)) _ (λ i. getD (map (λ e. e .name) (map (entryBy f) (t .job .entries))) i [])
-    (λ i. ap (bytesAt f) (h i ∙ ap (λ x. spotIn x i) (t .is)) ∙ sym (names-same f (t .job .entries) i))
-    ∙ sym (ap (λ x. findOf (mapGot (jobBy f) x) name) (t .is))
+pub fitting-down : (f : List ℕ) {v : Verdict} {r : Refusal} → v ≡ Answers.fittingOf (read spots fittings f) .verdict → v ≡ Verdict.Refused r → readJob fittings f ≡ refused (r .reason) (r .place)
+fitting-down f p q = refused-same f fittings (down (read spots fittings f) (sym (fitting-verdict (read spots fittings f)) ∙ sym p ∙ q))
 
--- ---- comparing
+-- the call is turned down with it
+pub job-down : {A : Type 0} {g : Got (Job (List ℕ))} {r : Refusal} (call : Job (List ℕ) → Answer A) → g ≡ refused (r .reason) (r .place) → refusal (r .reason) (r .place) ≡ onJob g call
+job-down call e = sym (ap (λ g. onJob g call) e)
 
-alike-by : (f f′ : List ℕ) (a b : Job Spot) → alike (jobBy f a) (jobBy f′ b) ≡ alike a b
-alike-by f f′ a b = rw (column-by f 0 (a .entries), column-by f 1 (a .entries), column-by f′ 0 (b .entries), column-by f′ 1 (b .entries))
+-- ---- files that are accepted
 
--- the test of the code, over arrays
-abbrev pub byArrays : ReadChoice → ReadChoice → Bool
-byArrays a b = eqb (a .articles) (b .articles) && (eqb (a .«wish_count») (b .«wish_count») && (eqb (a .order) (b .order) && (sameList (a .wishes) (b .wishes) && sameList (a .clashes) (b .clashes))))
+-- the call on the job
+pub on-job : {A : Type 0} {g : Got (Job (List ℕ))} {job : Job (List ℕ)} {end : ℕ} (call : Job (List ℕ) → Answer A) → g ≡ got job end → call job ≡ onJob g call
+on-job call e = sym (ap (λ g. onJob g call) e)
 
-alike-is : (a b : Job Spot) (m n : ℕ) → Few 64 (got a m) → Few 64 (got b n) → byArrays (choiceOf (got a m)) (choiceOf (got b n)) ≡ alike a b
-alike-is a b m n fa fb = go (eqb (size a) (size b)) refl
-  where
-    go : (t : Bool) → eqb (size a) (size b) ≡ t → byArrays (choiceOf (got a m)) (choiceOf (got b n)) ≡ alike a b
-    go true e =
-        let same = eqb-true (size a) (size b) e in
-        let lengths : (k : ℕ) → length (column k (a .entries)) ≡ length (column k (b .entries)) = λ k. column-length k (a .entries) ∙ fa .0 ∙ same ∙ sym (fb .0) ∙ sym (column-length k (b .entries)) in
-        let room : (k : ℕ) → length (column k (a .entries)) ≤ 64 = λ k. omega (arith, column-length k (a .entries), fa .0, fa .1) in
-        rw (padded-same 64 (wishes a) (wishes b) (lengths 0) (room 0), padded-same 64 (clashes a) (clashes b) (lengths 1) (room 1))
-    go false e = rw e
+-- what was read of a choice file states a job: its network and its order
+pub record ChoiceRead (f : List ℕ) (r : ReadChoice) : Type 0 where
+  pub job : Job (List ℕ)
+  pub end : ℕ
+  pub is : readJob choices f ≡ got job end
+  pub network : networkIn r ≡ networkOf job
+  pub wanted : r .order ≡ order job
 
-pub compare-first : (f f′ : List ℕ) (g g′ : Got (Job Spot)) {r : Refusal} → g ≡ refused (r .reason) (r .place) → Compared.Refused r ≡ compareOf (mapGot (jobBy f) g) (mapGot (jobBy f′) g′)
-compare-first f f′ g g′ e = sym (ap (λ x. compareOf (mapGot (jobBy f) x) (mapGot (jobBy f′) g′)) e)
+pub choice-read : (f : List ℕ) (r : ReadChoice) → r ≡ choiceOf (read spots choices f) → ChoiceBounds f r → r .verdict ≡ Verdict.Accepted → ChoiceRead f r
+choice-read f r e bounds accepted =
+    let t = choice-taken (read spots choices f) (ap (λ x. x .verdict) e) accepted in
+    let q : r ≡ choiceOf (got (t .job) (t .end)) = e ∙ ap choiceOf (t .is) in
+    record {
+      job = jobBy f (t .job);
+      end = t .end;
+      is = read-same f choices ∙ ap (mapGot (jobBy f)) (t .is);
+      network = ap networkIn q ∙ network-same f (t .job) (t .end) (subst (Few 64) (t .is) (bounds .3));
+      wanted = ap (λ x. x .order) q;
+    }
 
-pub compare-second : (f f′ : List ℕ) (g g′ : Got (Job Spot)) {r : Refusal} → Taken g → g′ ≡ refused (r .reason) (r .place) → Compared.Refused r ≡ compareOf (mapGot (jobBy f) g) (mapGot (jobBy f′) g′)
-compare-second f f′ g g′ t e = sym (ap₂ (λ x y. compareOf (mapGot (jobBy f) x) (mapGot (jobBy f′) y)) (t .is) e)
+-- what was read of a fitting file states a job: its fitting
+pub record FittingRead (f : List ℕ) (r : ReadFitting) : Type 0 where
+  pub job : Job (List ℕ)
+  pub end : ℕ
+  pub is : readJob fittings f ≡ got job end
+  pub fitting : fittingIn r ≡ fittingOf job
 
-pub compare-is : (f f′ : List ℕ) (g g′ : Got (Job Spot)) (a b : ReadChoice) (r : Bool) → Taken g → Taken g′ → a ≡ choiceOf g → b ≡ choiceOf g′ → Few 64 g → Few 64 g′ → r ≡ byArrays a b
-    → comparedBy r ≡ compareOf (mapGot (jobBy f) g) (mapGot (jobBy f′) g′)
-compare-is f f′ g g′ a b r t t′ ea eb few few′ e =
-    ap comparedBy (
-    e ∙ ap₂ byArrays (ea ∙ ap choiceOf (t .is)) (eb ∙ ap choiceOf (t′ .is))
-    ∙ alike-is (t .job) (t′ .job) (t .end) (t′ .end) (subst (Few 64) (t .is) few) (subst (Few 64) (t′ .is) few′) ∙ sym (alike-by f f′ (t .job) (t′ .job))
-    )
-    ∙ sym (ap₂ (λ x y. compareOf (mapGot (jobBy f) x) (mapGot (jobBy f′) y)) (t .is) (t′ .is))
+pub fitting-job : (f : List ℕ) (r : ReadFitting) → r ≡ Answers.fittingOf (read spots fittings f) → FittingBounds f r → r .verdict ≡ Verdict.Accepted → FittingRead f r
+fitting-job f r e bounds accepted =
+    let t = fitting-taken (read spots fittings f) (ap (λ x. x .verdict) e) accepted in
+    let q : readJob fittings f ≡ got (jobBy f (t .job)) (t .end) = read-same f fittings ∙ ap (mapGot (jobBy f)) (t .is) in
+    record { job = jobBy f (t .job); end = t .end; is = q; fitting = fitting-read f r e bounds (jobBy f (t .job)) (t .end) q }

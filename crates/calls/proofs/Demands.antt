@@ -1,127 +1,241 @@
--- The user's demands, over files. Assumes nothing.
---
--- Demand 3 speaks of what the choice and the planner accept. Its first half speaks of what the choice accepts: the input that no reason other than 14 to 16 turns down, which is `taken`. That the
--- choice then speaks of the job that the file states is the first part of `demand-3-choice`; the clauses on its answer are `ChoiceKept`. A
--- clash-free set covering the order is a `Selection` of the network of that job.
-use mathlib.Core.Path.{_≡_, refl, ap, sym, _∙_}
-use mathlib.Core.Bool.{Bool, true, false, false≢true}
-use mathlib.Core.List.{List}
-use mathlib.Core.Option.{Option, none, some}
+-- The user's demands, clause by clause and in the user's order, over file bytes, arguments, answers and buffers of the open calls. An answer `a` of
+-- a call is what its contract says (`partitionOf`, `passOf`, ..: each call's contract is an equation with it). Assumes nothing.
+use mathlib.Core.Path.{_≡_, refl, sym, ap, _∙_, subst}
+use mathlib.Core.Logic.{_⊎_}
+use mathlib.Core.Bool.{Bool, true, false}
+use mathlib.Core.List.{List, [], _∷_, _++_}
 use Prim.Native.Nat.{ℕ, _≤_}
 use native.Mathlib.Omega.{arith}
-use lib.Dec.{ltb}
-use lib.ListN.{length, getD, take, drop}
-use lib.Seq.{length-take-le}
-use borrow.Author.Tests.{ltb-false}
-use Rattle.sets.specs.Sets.{_∈_}
-use Rattle.sets.specs.First.{LeastFrom}
-use Rattle.reading.specs.declared.Reason.the-variants.{ShortBuffer, FalsePartition, BadGoal, NoSelection, NoPlan}
+use lib.ListN.{length, getD, drop}
+use Rattle.reading.specs.declared.Reason.{Reason}
+use Rattle.reading.specs.declared.Reason.the-variants.{NoSelection, NoPlan, NameNotFound}
+use Rattle.reading.specs.Reasons.{numberOf, answers}
 use Rattle.reading.specs.Got.{Got, got, refused}
-use Rattle.jobfile.specs.Job.{Job, size, order, horizon}
-use Rattle.jobfile.specs.Read.{readJob, choices, fittings}
+use Rattle.jobfile.specs.Job.{Job, namesOf, size, order, horizon}
+use Rattle.jobfile.specs.Read.{readJob, choices, fittings, either}
+use Rattle.jobfile.specs.Write.{write}
+use Rattle.jobfile.specs.Valid.{Bytes, Valid}
+use Rattle.jobfile.specs.Answers.{nameIn}
+use Rattle.jobfile.proofs.Theorems.{Known, exact-and-valid, read-back, one-writing}
+use Rattle.matching.specs.Names.{lowestNamed}
+use Rattle.matching.specs.Same.{alike}
 use Rattle.network.specs.Network.{Selection, networkOf}
-use Rattle.network.specs.Groups.{firstMisplaced}
-use Rattle.network.specs.Filter.{firstBad, setAside}
-use Rattle.network.proofs.GroupLaws.{lent-right}
-use Rattle.network.proofs.GoalLaws.{goals-within}
+use Rattle.network.specs.Groups.{Partition, groupsTo, groupOf}
+use Rattle.network.specs.Filter.{pass, setAside}
+use Rattle.network.proofs.GroupLaws.{groups-length, groups-right}
 use Rattle.choice.specs.Choice.{selection}
-use Rattle.choice.proofs.Theorems.{none-exactly, the-smallest, set-aside}
+use Rattle.choice.proofs.Theorems.{none-exactly, exactly-none}
 use Rattle.graph.specs.Rounds.{fittingOf, Plan, fewest}
-use Rattle.graph.proofs.PlanLaws.{fewest-none, fewest-some}
-use Rattle.calls.specs.Answers.{Answer, refusal, value, onJob, unless, unlessAt, found, taken}
-use Rattle.calls.specs.Choose.{Chosen, chooseIn, chooseOf}
+use Rattle.graph.specs.Layers.{factLayer, roundLayer}
+use Rattle.graph.proofs.PlanLaws.{fewest-none, none-fewest}
+use Rattle.layering.proofs.LayerCode.{facts-length, rounds-length}
+use Rattle.lending.specs.Answers.{Answer, refusal, value, onJob, accepted}
+use Rattle.calls.specs.Partition.{partitionIn, partitionOf}
+use Rattle.calls.specs.Pass.{passIn, passOf}
+use Rattle.calls.specs.Choose.{chosenOr, chooseIn, chooseOf}
+use Rattle.calls.specs.Layers.{factLayerIn, factLayerOf, roundLayerIn, roundLayerOf}
 use Rattle.calls.specs.Plan.{planIn, planOf, WordsIn, Buffer}
-use Rattle.calls.proofs.ReasonLaws.{file-no-answer}
+use Rattle.calls.specs.Find.{findIn, findOf}
+use Rattle.calls.specs.Compare.{compareOf}
+use Rattle.calls.specs.Demands.{Exactly, Refuses, Wrong, absentLayer, shortBuffer, falsePartition, absentArticle, wrongGoal, wrongGoals, ChoiceKept, PlanKept}
+use Rattle.calls.proofs.ReasonLaws.{file-reason}
+use Rattle.calls.proofs.DemandLaws.{exactly-then, tests-end, both-pass, room-checks, layer-checks, groups-checks, pass-checks, goals-checks, file-exactly, file-tests, file-taken, file-only, left-exactly, left-taken, left-kept, left-value, either-known, kind-taken, name-past, chosen-taken, chosen-none, choice-is, choice-kept, found-taken, found-none, plan-is, plan-kept}
 
--- ---- demand 3, the choice
+-- ---- demand 1
 
--- On a refusal, the clause on "no selection": it is the only refusal, and no selection has a number at or above the floor. That it comes
--- exactly then is `none-refused` below.
--- On a value, the other clauses: a selection at or above the floor, and every other one has a greater number; the set aside as it is defined;
--- and none of its articles lies in any selection, below the floor or not.
-abbrev pub ChoiceKept : Job (List ℕ) → (ℕ → ℕ) → List ℕ → ℕ → Answer Chosen → Type 0
-ChoiceKept job group goals floor (refusal reason place) = (reason ≡ NoSelection) × ((x : ℕ) → Selection (networkOf job) (order job) x → floor ≤ x → ⊥)
-ChoiceKept job group goals floor (value c) =
-    LeastFrom (Selection (networkOf job) (order job)) floor (c .selection) × (c .aside ≡ setAside (networkOf job) group goals) × ((x u : ℕ) → Selection (networkOf job) (order job) x → u ∈ c .aside → u ∈ x → ⊥)
+-- "Refused are files off the layout": those that are not the writing of a valid job of a kind that the call takes
+pub demand-1-files : (takes : ℕ → Bool) → Known takes → (file : List ℕ) → Bytes file
+    → Exactly ((reason : Reason) × (place : ℕ) × (readJob takes file ≡ refused reason place)) ((job : Job (List ℕ)) → Valid job → takes (job .kind) ≡ true → file ≡ write job → ⊥)
+demand-1-files takes known file bytes = (λ w job ok t e. absurd (no-value (sym (w .2) ∙ ap (readJob takes) e ∙ read-back takes known job ok t)), λ h. go h (readJob takes file) refl)
+  where
+    no-value : {reason : Reason} {place : ℕ} {job : Job (List ℕ)} {end : ℕ} → refused reason place ≡ got job end → ⊥
+    no-value e = let z : _≡_ {A = ℕ} 0 1 = cc in omega arith
 
--- where no selection has a number at or above the floor, the answer that is kept is "no selection": a value would have one
-pub none-refused : (job : Job (List ℕ)) (group : ℕ → ℕ) (goals : List ℕ) (floor : ℕ) (a : Answer Chosen) → ChoiceKept job group goals floor a → ((x : ℕ) → Selection (networkOf job) (order job) x → floor ≤ x → ⊥)
-    → (place : ℕ) × (a ≡ refusal NoSelection place)
-none-refused job group goals floor (refusal reason place) kept h = (place, ap (λ r. refusal r place) (kept .0))
-none-refused job group goals floor (value c) kept h = absurd (h (c .selection) (kept .0 .holds) (kept .0 .above))
+    go : ((job : Job (List ℕ)) → Valid job → takes (job .kind) ≡ true → file ≡ write job → ⊥) → (g : Got (Job (List ℕ))) → readJob takes file ≡ g → (reason : Reason) × (place : ℕ) × (readJob takes file ≡ refused reason place)
+    go h (refused reason place) e = (reason, place, e)
+    go h (got job end) e = let (w, ok) = exact-and-valid takes known file bytes e in absurd (h job ok (kind-taken takes known file bytes e) w)
 
-module _ (groups goals : List ℕ) (floor : ℕ) where
-  abbrev group : ℕ → ℕ
-  group u = getD groups u 0
+-- by reasons 1 to 8
+pub demand-1-file-numbers : (takes : ℕ → Bool) (file : List ℕ) {reason : Reason} {place : ℕ} → readJob takes file ≡ refused reason place → numberOf reason ≤ 8
+demand-1-file-numbers takes file e = file-reason takes file e
 
-  -- on a job: short groups, a false partition and a bad goal are not accepted, so the filter and the search had what they ask for
-  choice-kept : (job : Job (List ℕ)) → taken (chooseIn job groups goals floor) ≡ true → ChoiceKept job group goals floor (chooseIn job groups goals floor)
-  choice-kept job t = go (ltb (length groups) (size job)) (firstMisplaced (networkOf job) group) (firstBad (order job) goals) (selection (networkOf job) (order job) floor) refl refl refl t
-    where
-      answer : Bool → Option ℕ → Option ℕ → Option ℕ → Answer Chosen
-      answer short misplaced bad s = unless short ShortBuffer (unlessAt misplaced FalsePartition (unlessAt bad BadGoal (found s NoSelection (λ x. record { selection = x; aside = setAside (networkOf job) group goals }))))
+-- "articles or layers that the file lacks, short buffers, false partitions and projection goals that are empty or outside the order, each by its
+-- number and place": a call turns its input down exactly for the first of these, the file before the arguments, and the arguments by the numbers
+pub demand-1-partition : (file buffer : List ℕ) (reason : Reason) (place : ℕ) → Exactly (Refuses (partitionOf file buffer .answer) reason place) (Wrong choices file (λ job. shortBuffer buffer (size job) ∷ []) reason place)
+demand-1-partition file buffer reason place =
+    exactly-then (left-exactly (λ groups. groups) (λ groups. tt) buffer (onJob (readJob choices file) (λ job. partitionIn job buffer)) reason place)
+    (file-tests choices file (λ job. partitionIn job buffer) (λ job. room-checks buffer (size job) .tests (tests-end (value (groupsTo (networkOf job) (size job))) refl)) reason place)
 
-      go : (short : Bool) (misplaced bad s : Option ℕ) → firstMisplaced (networkOf job) group ≡ misplaced → firstBad (order job) goals ≡ bad → selection (networkOf job) (order job) floor ≡ s
-          → taken (answer short misplaced bad s) ≡ true → ChoiceKept job group goals floor (answer short misplaced bad s)
-      go true misplaced bad s p q e t = absurd (false≢true t)
-      go false (some u) bad s p q e t = absurd (false≢true t)
-      go false none (some i) s p q e t = absurd (false≢true t)
-      go false none none none p q e t = (refl, none-exactly (networkOf job) (order job) floor e)
-      go false none none (some x) p q e t = (the-smallest (networkOf job) (order job) floor x e, refl, set-aside (networkOf job) group (lent-right (networkOf job) group p) goals (goals-within (order job) goals q))
+pub demand-1-pass : (file groups : List ℕ) (live goal : ℕ) (reason : Reason) (place : ℕ)
+    → Exactly (Refuses (passOf file groups live goal) reason place) (Wrong choices file (λ job. shortBuffer groups (size job) ∷ falsePartition (networkOf job) groups ∷ absentArticle (size job) live ∷ wrongGoal (order job) goal ∷ []) reason place)
+demand-1-pass file groups live goal =
+    file-tests choices file (λ job. passIn job groups live goal) (λ job.
+    groups-checks (networkOf job) groups .tests
+    (pass-checks (size job) (order job) live goal .tests (tests-end (value (pass (networkOf job) (λ u. getD groups u 0) live goal)) refl)))
 
--- on a file: one that is refused is not accepted
-pub demand-3-choice : (file groups goals : List ℕ) (floor : ℕ) → taken (chooseOf file groups goals floor) ≡ true
+pub demand-1-choose : (file groups goals : List ℕ) (floor : ℕ) (reason : Reason) (place : ℕ)
+    → Exactly (Refuses (chooseOf file groups goals floor) reason place) (Wrong choices file (λ job. shortBuffer groups (size job) ∷ falsePartition (networkOf job) groups ∷ wrongGoals (order job) goals ∷ []) reason place)
+demand-1-choose file groups goals floor =
+    file-tests choices file (λ job. chooseIn job groups goals floor) (λ job.
+    groups-checks (networkOf job) groups .tests (goals-checks (order job) goals .tests (tests-end _ (chosen-taken (selection (networkOf job) (order job) floor) _))))
+
+pub demand-1-fact-layer : (file buffer : List ℕ) (k : ℕ) (reason : Reason) (place : ℕ)
+    → Exactly (Refuses (factLayerOf file k buffer .answer) reason place) (Wrong fittings file (λ job. absentLayer k 0 (horizon job) ∷ shortBuffer buffer 32 ∷ []) reason place)
+demand-1-fact-layer file buffer k reason place =
+    exactly-then (left-exactly (λ layer. layer .words) (λ layer. layer .members) buffer (onJob (readJob fittings file) (λ job. factLayerIn job k buffer)) reason place)
+    (file-tests fittings file (λ job. factLayerIn job k buffer) (λ job. layer-checks k 0 (horizon job) buffer 32 .tests (tests-end (value (factLayer 32 (fittingOf job) k)) refl)) reason place)
+
+pub demand-1-round-layer : (file buffer : List ℕ) (k : ℕ) (reason : Reason) (place : ℕ)
+    → Exactly (Refuses (roundLayerOf file k buffer .answer) reason place) (Wrong fittings file (λ job. absentLayer k 1 (horizon job) ∷ shortBuffer buffer 64 ∷ []) reason place)
+demand-1-round-layer file buffer k reason place =
+    exactly-then (left-exactly (λ layer. layer .words) (λ layer. layer .members) buffer (onJob (readJob fittings file) (λ job. roundLayerIn job k buffer)) reason place)
+    (file-tests fittings file (λ job. roundLayerIn job k buffer) (λ job. layer-checks k 1 (horizon job) buffer 64 .tests (tests-end (value (roundLayer 32 (fittingOf job) k)) refl)) reason place)
+
+pub demand-1-plan : (file buffer : List ℕ) (reason : Reason) (place : ℕ) → Exactly (Refuses (planOf file buffer) reason place) (Wrong fittings file (λ job. shortBuffer buffer (horizon job) ∷ []) reason place)
+demand-1-plan file buffer =
+    file-tests fittings file (λ job. planIn job buffer) (λ job. room-checks buffer (horizon job) .tests (tests-end _ (found-taken (fewest (fittingOf job) (horizon job)) NoPlan refl)))
+
+pub demand-1-find : (file name : List ℕ) (reason : Reason) (place : ℕ) → Exactly (Refuses (findOf file name) reason place) (Wrong either file (λ job. []) reason place)
+demand-1-find file name = file-tests either file (λ job. findIn job name) (λ job. tests-end _ (found-taken (lowestNamed name (size job) (λ i. getD (namesOf (job .entries)) i [])) NameNotFound refl))
+
+-- the comparison: the first file, then the second
+pub demand-1-compare : (first second : List ℕ) (reason : Reason) (place : ℕ)
+    → Exactly (Refuses (compareOf first second) reason place) ((readJob choices first ≡ refused reason place) ⊎ ((job : Job (List ℕ)) × (end : ℕ) × (readJob choices first ≡ got job end) × (readJob choices second ≡ refused reason place)))
+demand-1-compare first second reason place =
+    file-exactly choices first (λ a. onJob (readJob choices second) (λ b. value (alike a b))) reason place (λ job. readJob choices second ≡ refused reason place) (λ a.
+    exactly-then (file-tests choices second (λ b. value (alike a b)) (λ b. tests-end (value (alike a b)) refl) reason place) (file-only choices second reason place))
+
+-- "with nothing written", 14 to 16 included
+pub demand-1-partition-kept : (file buffer : List ℕ) {reason : Reason} {place : ℕ} → partitionOf file buffer .answer ≡ refusal reason place → partitionOf file buffer .buffer ≡ buffer
+demand-1-partition-kept file buffer e = left-kept (λ groups. groups) (λ groups. tt) buffer (onJob (readJob choices file) (λ job. partitionIn job buffer)) e
+
+pub demand-1-fact-layer-kept : (file buffer : List ℕ) (k : ℕ) {reason : Reason} {place : ℕ} → factLayerOf file k buffer .answer ≡ refusal reason place → factLayerOf file k buffer .buffer ≡ buffer
+demand-1-fact-layer-kept file buffer k e = left-kept (λ layer. layer .words) (λ layer. layer .members) buffer (onJob (readJob fittings file) (λ job. factLayerIn job k buffer)) e
+
+pub demand-1-round-layer-kept : (file buffer : List ℕ) (k : ℕ) {reason : Reason} {place : ℕ} → roundLayerOf file k buffer .answer ≡ refusal reason place → roundLayerOf file k buffer .buffer ≡ buffer
+demand-1-round-layer-kept file buffer k e = left-kept (λ layer. layer .words) (λ layer. layer .members) buffer (onJob (readJob fittings file) (λ job. roundLayerIn job k buffer)) e
+
+pub demand-1-plan-kept : (file old new : List ℕ) {reason : Reason} {place : ℕ} → Buffer (readJob fittings file) old new (planOf file old) → planOf file old ≡ refusal reason place → new ≡ old
+demand-1-plan-kept file old new {reason} {place} b e = go (readJob fittings file) (planOf file old) b e
+  where
+    go : (g : Got (Job (List ℕ))) (a : Answer ℕ) → Buffer g old new a → a ≡ refusal reason place → new ≡ old
+    go (refused r p) a b e = b
+    go (got job end) a b e = subst (WordsIn (fittingOf job) old new) e b
+
+-- "only the call for a name gives an empty name in place of a number"
+pub demand-1-name : (file : List ℕ) (number : ℕ) {reason : Reason} {place : ℕ} → readJob either file ≡ refused reason place → nameIn (readJob either file) number ≡ []
+demand-1-name file number e = ap (λ g. nameIn g number) e
+
+pub demand-1-name-absent : (file : List ℕ) (number : ℕ) → Bytes file → {job : Job (List ℕ)} {end : ℕ} → readJob either file ≡ got job end → size job ≤ number → nameIn (readJob either file) number ≡ []
+demand-1-name-absent file number bytes {job} e l =
+    let ok : Valid job = exact-and-valid either either-known file bytes e .1 in
+    ap (λ g. nameIn g number) e ∙ name-past (job .entries) number (omega (arith, ok .size))
+
+-- "All else is accepted": input that a call does not turn down; 14 to 16 are answers to accepted input
+pub demand-1-else : {A : Type 0} (a : Answer A) → ((reason : Reason) (place : ℕ) → Refuses a reason place → ⊥) → accepted a ≡ true
+demand-1-else (refusal reason place) h = go (answers reason) refl
+  where
+    go : (t : Bool) → answers reason ≡ t → answers reason ≡ true
+    go true e = e
+    go false e = absurd (h reason place (refl, e))
+demand-1-else (value x) h = refl
+
+pub demand-1-only : {A : Type 0} (a : Answer A) → accepted a ≡ true → (reason : Reason) (place : ℕ) → Refuses a reason place → ⊥
+demand-1-only a t reason place w = tests-end a t .exactly reason place .0 w
+
+-- "every call ends with the result that is defined": finding and comparing; the other calls are those of demands 2 and 3
+pub demand-1-find-result : (file name : List ℕ) → accepted (findOf file name) ≡ true → (job : Job (List ℕ)) × (end : ℕ) × (readJob either file ≡ got job end) × (findOf file name ≡ findIn job name)
+demand-1-find-result file name t = let (job, end, e, i, s) = file-taken either file (λ job. findIn job name) t in (job, end, e, i)
+
+pub demand-1-compare-result : (first second : List ℕ) → accepted (compareOf first second) ≡ true
+    → (a b : Job (List ℕ)) × (m n : ℕ) × (readJob choices first ≡ got a m) × (readJob choices second ≡ got b n) × (compareOf first second ≡ value (alike a b))
+demand-1-compare-result first second t =
+    let (a, m, e, i, s) = file-taken choices first (λ a. onJob (readJob choices second) (λ b. value (alike a b))) t in
+    let (b, n, h, j, r) = file-taken choices second (λ b. value (alike a b)) s in
+    (a, b, m, n, e, h, i ∙ j)
+
+-- ---- demand 2: on accepted input, each result is its definition on the job that the file states
+
+-- "Reading": an accepted file is the writing of its job, which is valid
+pub demand-2-reading : (takes : ℕ → Bool) → Known takes → (file : List ℕ) → Bytes file → {job : Job (List ℕ)} {end : ℕ} → readJob takes file ≡ got job end → (file ≡ write job) × Valid job
+demand-2-reading takes known file bytes e = exact-and-valid takes known file bytes e
+
+-- "partition", in front of the buffer, with the later bytes as they were; it is one
+pub demand-2-partition : (file buffer : List ℕ) → accepted (partitionOf file buffer .answer) ≡ true
+    → (job : Job (List ℕ)) × (end : ℕ) × (readJob choices file ≡ got job end) × (partitionOf file buffer .answer ≡ value tt) × (partitionOf file buffer .buffer ≡ groupsTo (networkOf job) (size job) ++ drop (size job) buffer) × Partition (networkOf job) (groupOf (networkOf job))
+demand-2-partition file buffer t =
+    let a = onJob (readJob choices file) (λ job. partitionIn job buffer) in
+    let (job, end, e, i, s) = file-taken choices file (λ job. partitionIn job buffer) (sym (left-taken (λ groups. groups) (λ groups. tt) buffer a) ∙ t) in
+    let (p, q) = left-value (λ groups. groups) (λ groups. tt) buffer (i ∙ room-checks buffer (size job) .passes _ s) (groups-length (networkOf job) (size job)) in
+    (job, end, e, p, q, groups-right (networkOf job))
+
+-- "filter"
+pub demand-2-pass : (file groups : List ℕ) (live goal : ℕ) → accepted (passOf file groups live goal) ≡ true
+    → (job : Job (List ℕ)) × (end : ℕ) × (readJob choices file ≡ got job end) × (passOf file groups live goal ≡ value (pass (networkOf job) (λ u. getD groups u 0) live goal))
+demand-2-pass file groups live goal t =
+    let (job, end, e, i, s) = file-taken choices file (λ job. passIn job groups live goal) t in
+    (job, end, e, i ∙ both-pass (groups-checks (networkOf job) groups) (pass-checks (size job) (order job) live goal) _ s)
+
+-- "smallest selection"
+pub demand-2-choose : (file groups goals : List ℕ) (floor : ℕ) → accepted (chooseOf file groups goals floor) ≡ true
+    → (job : Job (List ℕ)) × (end : ℕ) × (readJob choices file ≡ got job end) × (chooseOf file groups goals floor ≡ chosenOr (selection (networkOf job) (order job) floor) (setAside (networkOf job) (λ u. getD groups u 0) goals))
+demand-2-choose file groups goals floor t =
+    let (job, end, e, i, s) = file-taken choices file (λ job. chooseIn job groups goals floor) t in
+    (job, end, e, i ∙ choice-is groups goals floor job s)
+
+-- "planning-graph layers"
+pub demand-2-fact-layer : (file buffer : List ℕ) (k : ℕ) → accepted (factLayerOf file k buffer .answer) ≡ true
+    → (job : Job (List ℕ)) × (end : ℕ) × (readJob fittings file ≡ got job end) × (factLayerOf file k buffer .answer ≡ value (factLayer 32 (fittingOf job) k .members)) × (factLayerOf file k buffer .buffer ≡ factLayer 32 (fittingOf job) k .words ++ drop 32 buffer)
+demand-2-fact-layer file buffer k t =
+    let a = onJob (readJob fittings file) (λ job. factLayerIn job k buffer) in
+    let (job, end, e, i, s) = file-taken fittings file (λ job. factLayerIn job k buffer) (sym (left-taken (λ layer. layer .words) (λ layer. layer .members) buffer a) ∙ t) in
+    let (p, q) = left-value (λ layer. layer .words) (λ layer. layer .members) buffer (i ∙ layer-checks k 0 (horizon job) buffer 32 .passes _ s) (facts-length 32 (fittingOf job) k) in
+    (job, end, e, p, q)
+
+pub demand-2-round-layer : (file buffer : List ℕ) (k : ℕ) → accepted (roundLayerOf file k buffer .answer) ≡ true
+    → (job : Job (List ℕ)) × (end : ℕ) × (readJob fittings file ≡ got job end) × (roundLayerOf file k buffer .answer ≡ value (roundLayer 32 (fittingOf job) k .members)) × (roundLayerOf file k buffer .buffer ≡ roundLayer 32 (fittingOf job) k .words ++ drop 64 buffer)
+demand-2-round-layer file buffer k t =
+    let a = onJob (readJob fittings file) (λ job. roundLayerIn job k buffer) in
+    let (job, end, e, i, s) = file-taken fittings file (λ job. roundLayerIn job k buffer) (sym (left-taken (λ layer. layer .words) (λ layer. layer .members) buffer a) ∙ t) in
+    let (p, q) = left-value (λ layer. layer .words) (λ layer. layer .members) buffer (i ∙ layer-checks k 1 (horizon job) buffer 64 .passes _ s) (rounds-length 32 (fittingOf job) k) in
+    (job, end, e, p, q)
+
+-- "no two different files that are accepted state one job"
+pub demand-2-one-writing : (takes takes′ : ℕ → Bool) → Known takes → Known takes′ → (f g : List ℕ) → Bytes f → Bytes g → {job : Job (List ℕ)} {m n : ℕ} → readJob takes f ≡ got job m → readJob takes′ g ≡ got job n → f ≡ g
+demand-2-one-writing takes takes′ known known′ f g bf bg p q = one-writing takes takes′ known known′ f g bf bg p q
+
+-- ---- demand 3
+
+-- "Whatever choice file, partition, projection goals and floor the choice accepts": the clauses of `ChoiceKept`
+pub demand-3-choice : (file groups goals : List ℕ) (floor : ℕ) → accepted (chooseOf file groups goals floor) ≡ true
     → (job : Job (List ℕ)) × (end : ℕ) × (readJob choices file ≡ got job end) × ChoiceKept job (λ u. getD groups u 0) goals floor (chooseOf file groups goals floor)
-demand-3-choice file groups goals floor t = go (readJob choices file) refl t
-  where
-    on : Got (Job (List ℕ)) → Answer Chosen
-    on g = onJob g (λ job. chooseIn job groups goals floor)
+demand-3-choice file groups goals floor t =
+    let (job, end, e, i, s) = file-taken choices file (λ job. chooseIn job groups goals floor) t in
+    (job, end, e, subst (ChoiceKept job (λ u. getD groups u 0) goals floor) (sym i) (choice-kept groups goals floor job s))
 
-    go : (g : Got (Job (List ℕ))) → readJob choices file ≡ g → taken (on g) ≡ true → (job : Job (List ℕ)) × (end : ℕ) × (g ≡ got job end) × ChoiceKept job (λ u. getD groups u 0) goals floor (on g)
-    go (refused reason place) e t = absurd (false≢true (sym (file-no-answer choices file e) ∙ t))
-    go (got job end) e t = (job, end, refl, choice-kept groups goals floor job t)
+-- "no selection" comes exactly when there is none
+pub demand-3-no-selection : (file groups goals : List ℕ) (floor : ℕ) → accepted (chooseOf file groups goals floor) ≡ true → {job : Job (List ℕ)} {end : ℕ} → readJob choices file ≡ got job end
+    → Exactly (chooseOf file groups goals floor ≡ refusal NoSelection 0) ((x : ℕ) → Selection (networkOf job) (order job) x → floor ≤ x → ⊥)
+demand-3-no-selection file groups goals floor t {job} e =
+    let i : chooseOf file groups goals floor ≡ chooseIn job groups goals floor = ap (λ g. onJob g (λ job. chooseIn job groups goals floor)) e in
+    let is = i ∙ choice-is groups goals floor job (sym (ap accepted i) ∙ t) in
+    let (to, back) = chosen-none (selection (networkOf job) (order job) floor) (setAside (networkOf job) (λ u. getD groups u 0) goals) in
+    (λ r. none-exactly (networkOf job) (order job) floor (to (sym is ∙ r)), λ h. is ∙ back (exactly-none (networkOf job) (order job) floor h))
 
--- ---- demand 3, the planner
-
--- On a refusal, the clause on "no plan": it is the only refusal, no plan within the horizon exists, and nothing was written. On a value, the
--- other clauses: that many words in front are, in order, all the rounds of a plan, which is within the horizon; no plan has fewer rounds; and
--- later words keep.
-abbrev pub PlanKept : Job (List ℕ) → List ℕ → List ℕ → Answer ℕ → Type 0
-PlanKept job old new (refusal reason place) = (reason ≡ NoPlan) × ((rs : List ℕ) → Plan (fittingOf job) rs → length rs ≤ horizon job → ⊥) × (new ≡ old)
-PlanKept job old new (value k) =
-    (k ≤ horizon job) × (length (take k new) ≡ k) × Plan (fittingOf job) (take k new) × ((rs : List ℕ) → Plan (fittingOf job) rs → k ≤ length rs) × (drop k new ≡ drop k old)
-
--- where no plan within the horizon exists, the answer that is kept is "no plan": a value would have one
-pub no-plan-refused : (job : Job (List ℕ)) (old new : List ℕ) (a : Answer ℕ) → PlanKept job old new a → ((rs : List ℕ) → Plan (fittingOf job) rs → length rs ≤ horizon job → ⊥)
-    → (place : ℕ) × (a ≡ refusal NoPlan place)
-no-plan-refused job old new (refusal reason place) kept h = (place, ap (λ r. refusal r place) (kept .0))
-no-plan-refused job old new (value k) (l, many, plan, least, keep) h = absurd (h (take k new) plan (omega (arith, many)))
-
-module _ (old new : List ℕ) (same : length new ≡ length old) where
-  -- on a job: a short buffer is not accepted
-  plan-kept : (job : Job (List ℕ)) → taken (planIn job old) ≡ true → WordsIn (fittingOf job) old new (planIn job old) → PlanKept job old new (planIn job old)
-  plan-kept job t w = go (ltb (length old) (horizon job)) (fewest (fittingOf job) (horizon job)) refl refl t w
-    where
-      answer : Bool → Option ℕ → Answer ℕ
-      answer short k = unless short ShortBuffer (found k NoPlan (λ k. k))
-
-      go : (short : Bool) (k : Option ℕ) → ltb (length old) (horizon job) ≡ short → fewest (fittingOf job) (horizon job) ≡ k → taken (answer short k) ≡ true
-          → WordsIn (fittingOf job) old new (answer short k) → PlanKept job old new (answer short k)
-      go true k p e t w = absurd (false≢true t)
-      go false none p e t w = (refl, fewest-none (fittingOf job) (horizon job) e, w)
-      go false (some k) p e t (plan, keep) =
-          let (l, made, least) = fewest-some (fittingOf job) (horizon job) k e in
-          let room : horizon job ≤ length old = ltb-false (length old) (horizon job) p in
-          (l, length-take-le k new (omega (arith, same)), plan, least, keep)
-
--- on a file and a buffer: `Buffer` is what the contract of the call says of the words, old before it and new after it; no call changes how many there are
-pub demand-3-plan : (file old new : List ℕ) → length new ≡ length old → taken (planOf file old) ≡ true → Buffer (readJob fittings file) old new (planOf file old)
+-- "Whatever fitting file and buffer the planner accepts": the clauses of `PlanKept`. `Buffer` is what the contract says of the words, old before the
+-- call and new after it; no call changes how many there are
+pub demand-3-plan : (file old new : List ℕ) → length new ≡ length old → accepted (planOf file old) ≡ true → Buffer (readJob fittings file) old new (planOf file old)
     → (job : Job (List ℕ)) × (end : ℕ) × (readJob fittings file ≡ got job end) × PlanKept job old new (planOf file old)
-demand-3-plan file old new same t b = go (readJob fittings file) refl t b
-  where
-    on : Got (Job (List ℕ)) → Answer ℕ
-    on g = onJob g (λ job. planIn job old)
+demand-3-plan file old new same t b =
+    let (job, end, e, i, s) = file-taken fittings file (λ job. planIn job old) t in
+    let w : WordsIn (fittingOf job) old new (planIn job old) = subst (λ g. Buffer g old new (onJob g (λ job. planIn job old))) e b in
+    (job, end, e, subst (PlanKept job old new) (sym i) (plan-kept old new same job s w))
 
-    go : (g : Got (Job (List ℕ))) → readJob fittings file ≡ g → taken (on g) ≡ true → Buffer g old new (on g) → (job : Job (List ℕ)) × (end : ℕ) × (g ≡ got job end) × PlanKept job old new (on g)
-    go (refused reason place) e t b = absurd (false≢true (sym (file-no-answer fittings file e) ∙ t))
-    go (got job end) e t b = (job, end, refl, plan-kept old new same job t b)
+-- "no plan" comes exactly when there is none within the horizon
+pub demand-3-no-plan : (file buffer : List ℕ) → accepted (planOf file buffer) ≡ true → {job : Job (List ℕ)} {end : ℕ} → readJob fittings file ≡ got job end
+    → Exactly (planOf file buffer ≡ refusal NoPlan 0) ((rs : List ℕ) → Plan (fittingOf job) rs → length rs ≤ horizon job → ⊥)
+demand-3-no-plan file buffer t {job} e =
+    let i : planOf file buffer ≡ planIn job buffer = ap (λ g. onJob g (λ job. planIn job buffer)) e in
+    let is = i ∙ plan-is buffer job (sym (ap accepted i) ∙ t) in
+    let (to, back) = found-none (fewest (fittingOf job) (horizon job)) NoPlan in
+    (λ r. fewest-none (fittingOf job) (horizon job) (to (sym is ∙ r)), λ h. is ∙ back (none-fewest (fittingOf job) (horizon job) h))

@@ -1,7 +1,8 @@
--- The laws behind the open calls.
-pub mod SameLaws
-pub mod CallLaws
-pub mod ChooseLaws
-pub mod PlanLaws
+-- The laws behind the open calls, and the demands.
 pub mod ReasonLaws
+pub mod CallLaws
+pub mod ChoiceLaws
+pub mod FittingLaws
+pub mod NameLaws
+pub mod DemandLaws
 pub mod Demands

@@ -2,18 +2,18 @@
 use mathlib.Core.Bool.{Bool, true, false}
 use mathlib.Core.List.{List}
 use Prim.Native.Nat.{ℕ}
-use Rattle.reading.specs.Got.{Got, got, refused}
-use Rattle.jobfile.specs.Job.{Job}
-use Rattle.calls.specs.declared.Compared.{Compared}
-use Rattle.calls.specs.declared.Compared.the-variants as Compared
-use Rattle.calls.specs.Same.{alike}
+use Rattle.jobfile.specs.Read.{readJob, choices}
+use Rattle.matching.specs.Same.{alike}
+use Rattle.lending.specs.Answers.{Answer, refusal, value, onJob}
+use Rattle.calls.specs.declared.CompareAnswer.{CompareAnswer}
+use Rattle.calls.specs.declared.CompareAnswer.the-variants as CompareAnswer
 
-abbrev pub comparedBy : Bool → Compared
-comparedBy true = Compared.Alike
-comparedBy false = Compared.Unlike
+-- whether two files are alike; the first is tested before the second
+abbrev pub compareOf : List ℕ → List ℕ → Answer Bool
+compareOf first second = onJob (readJob choices first) (λ a. onJob (readJob choices second) (λ b. value (alike a b)))
 
--- the first file is tested before the second
-abbrev pub compareOf : Got (Job (List ℕ)) → Got (Job (List ℕ)) → Compared
-compareOf (refused reason place) second = Compared.Refused (record { reason = reason; place = place })
-compareOf (got a end) (refused reason place) = Compared.Refused (record { reason = reason; place = place })
-compareOf (got a end) (got b end′) = comparedBy (alike a b)
+-- what the code's answer says
+abbrev pub compareTold : CompareAnswer → Answer Bool
+compareTold (CompareAnswer.Refused x) = refusal (x .reason) (x .place)
+compareTold CompareAnswer.Alike = value true
+compareTold CompareAnswer.Unlike = value false

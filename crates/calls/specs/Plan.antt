@@ -2,29 +2,29 @@
 use mathlib.Core.Path.{_≡_}
 use mathlib.Core.List.{List}
 use Prim.Native.Nat.{ℕ}
-use lib.Dec.{ltb}
 use lib.ListN.{length, take, drop}
-use Rattle.reading.specs.declared.Reason.the-variants.{ShortBuffer, NoPlan}
+use Rattle.reading.specs.declared.Reason.the-variants.{NoPlan}
 use Rattle.reading.specs.Got.{Got, got, refused}
 use Rattle.jobfile.specs.Job.{Job, horizon}
 use Rattle.jobfile.specs.Read.{readJob, fittings}
 use Rattle.graph.specs.Rounds.{Fitting, fittingOf, Plan, fewest}
+use Rattle.lending.specs.Answers.{Answer, refusal, value, onJob, behind, found}
+use Rattle.lending.specs.Tests.{roomTest}
 use Rattle.calls.specs.declared.PlanAnswer.{PlanAnswer}
 use Rattle.calls.specs.declared.PlanAnswer.the-variants as PlanAnswer
-use Rattle.calls.specs.Answers.{Answer, refusal, value, onJob, unless, found}
 
--- on a job: 10 is tested; then the fewest rounds of a plan within the horizon, or 15
+-- on a job: 10 is tested, by the horizon; then the fewest rounds of a plan within it; none is 15
 abbrev pub planIn : {N : Type 0} → Job N → List ℕ → Answer ℕ
-planIn job buffer = unless (ltb (length buffer) (horizon job)) ShortBuffer (found (fewest (fittingOf job) (horizon job)) NoPlan (λ k. k))
+planIn job buffer = behind (roomTest (length buffer) (horizon job)) (found (fewest (fittingOf job) (horizon job)) NoPlan)
 
 -- on a file
 abbrev pub planOf : List ℕ → List ℕ → Answer ℕ
 planOf file buffer = onJob (readJob fittings file) (λ job. planIn job buffer)
 
--- as the code answers
-abbrev pub planAnswer : Answer ℕ → PlanAnswer
-planAnswer (refusal reason place) = PlanAnswer.Refused (record { reason = reason; place = place })
-planAnswer (value k) = PlanAnswer.Rounds k
+-- what the code's answer says
+abbrev pub planTold : PlanAnswer → Answer ℕ
+planTold (PlanAnswer.Refused x) = refusal (x .reason) (x .place)
+planTold (PlanAnswer.Rounds k) = value k
 
 -- The buffer afterwards. Where k rounds are answered its first k words are the rounds of a plan, in their order, which one is left free, and the
 -- others keep; and otherwise all words keep

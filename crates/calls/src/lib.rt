@@ -1,47 +1,85 @@
-// The open calls. Each takes the bytes of a file and its other arguments as they come: no call
-// requires anything, and its contract is one equation with specs/, for every input.
+// The open calls, in the order of docs/RULES.md. Each takes the bytes of a file and its other arguments
+// as they come: no call requires anything. The file is tested first, then the arguments in the order of
+// the reasons' numbers. A contract is one equation with specs/, for every input, which fixes the answer
+// and the buffer that is lent; only the words of a plan are left free, and `Buffer` says what holds of
+// them.
 ghost use mathlib.Core.Path.{_≡_};
-ghost use Rattle.jobfile.specs.Read.{readJob, choices, fittings, either};
+ghost use Rattle.reading.specs.declared.Reason.the-variants.{NameNotFound};
+ghost use Rattle.jobfile.specs.Read.{readJob, fittings, either};
 ghost use Rattle.jobfile.specs.Answers.{nameIn};
-ghost use Rattle.calls.specs.Choose.{chooseOf, choiceAnswer};
-ghost use Rattle.calls.specs.Plan.{planOf, planAnswer, Buffer};
-ghost use Rattle.calls.specs.Find.{findOf};
-ghost use Rattle.calls.specs.Compare.{compareOf};
-
-mod likeness;
-mod names;
-
+ghost use Rattle.matching.specs.Names.{placeOf};
+ghost use Rattle.lending.specs.Answers.{found};
+ghost use Rattle.calls.specs.Partition.{partitionOf, partitionTold};
+ghost use Rattle.calls.specs.Pass.{passOf, passTold};
+ghost use Rattle.calls.specs.Choose.{chooseOf, choiceTold};
+ghost use Rattle.calls.specs.Layers.{factLayerOf, factsTold, roundLayerOf, verticesTold};
+ghost use Rattle.calls.specs.Plan.{planOf, planTold, Buffer};
+ghost use Rattle.calls.specs.Find.{findOf, findTold};
+ghost use Rattle.calls.specs.Compare.{compareOf, compareTold};
 use choice::Choice;
 use jobfile::Verdict;
-use network::goals;
-use network::goals::Goals;
-use network::lent;
-use network::lent::Lent;
+use lending::written;
+use matching::likeness;
+use matching::names;
+use matching::names::Named;
 use planner::Planned;
 use reading::Reason;
 use reading::Refusal;
 use sets::ArticleSet;
 
-fn refusal_at(reason: Reason, place: usize) -> Refusal
-    ensures { λ r. ⌜ r ≡ record { reason = reason; place = place } ⌝ }
+// ---- choice files
+
+// That the groups are written, or why they are not.
+pub enum PartitionAnswer {
+    Done,
+    Refused(Refusal),
+}
+
+// Our own partition: the group of each article, in its byte. Later bytes keep.
+pub fn partition(file: &[u8], groups: &mut [u8]) -> PartitionAnswer
+    ensures { λ r. ⌜ record { answer = partitionTold r; buffer = now (groups .exit) } ≡ partitionOf (now (file .entry)) (now (groups .entry)) ⌝ }
 {
-    Refusal {
-        reason: reason,
-        place: place,
+    let read = jobfile::read_choice(file);
+    let verdict = read.verdict;
+    if let Verdict::Refused(refusal) = verdict {
+        return PartitionAnswer::Refused(refusal);
     }
+    let tested = lending::room(groups.len(), read.articles);
+    if let Verdict::Refused(refusal) = tested {
+        return PartitionAnswer::Refused(refusal);
+    }
+    let clashes = read.clashes;
+    network::partition::partition(&clashes, read.articles, groups);
+    PartitionAnswer::Done
 }
 
-// The number of an article or step, or why there is none.
-pub enum Found {
-    At(usize),
+// The live articles that are left, or why a pass is refused.
+pub enum PassAnswer {
+    Live(ArticleSet),
     Refused(Refusal),
 }
 
-// Whether two files are alike, or why one of them is refused.
-pub enum Compared {
-    Alike,
-    Unlike,
-    Refused(Refusal),
+// A pass of the filter, by the groups lent: the live articles that are supported.
+pub fn pass(file: &[u8], groups: &[u8], live: ArticleSet, goal: u64) -> PassAnswer
+    ensures { λ r. ⌜ passTold r ≡ passOf (now (file .entry)) (now (groups .entry)) (live .bits) goal ⌝ }
+{
+    let read = jobfile::read_choice(file);
+    let verdict = read.verdict;
+    if let Verdict::Refused(refusal) = verdict {
+        return PassAnswer::Refused(refusal);
+    }
+    let partition = lending::groups(read, groups);
+    if let Verdict::Refused(refusal) = partition {
+        return PassAnswer::Refused(refusal);
+    }
+    let tested = lending::live_and_goal(read.articles, read.order, live.bits, goal);
+    if let Verdict::Refused(refusal) = tested {
+        return PassAnswer::Refused(refusal);
+    }
+    let wishes = read.wishes;
+    PassAnswer::Live(ArticleSet {
+        bits: filtering::pass(&wishes, groups, read.articles, live.bits, goal),
+    })
 }
 
 // A selection with the set aside, or why there is none.
@@ -50,49 +88,107 @@ pub enum ChoiceAnswer {
     Refused(Refusal),
 }
 
-// How many rounds a plan has, or why there is none.
-pub enum PlanAnswer {
-    Rounds(usize),
-    Refused(Refusal),
-}
-
 // The smallest selection at or above the floor, with the articles that the filter set aside: by the
 // groups lent, with a pass for each goal in turn.
 pub fn choose(file: &[u8], groups: &[u8], goals: &[u64], floor: u64) -> ChoiceAnswer
-    ensures { λ r. ⌜ r ≡ choiceAnswer (chooseOf (now (file .entry)) (now (groups .entry)) (now (goals .entry)) floor) ⌝ }
+    ensures { λ r. ⌜ choiceTold r ≡ chooseOf (now (file .entry)) (now (groups .entry)) (now (goals .entry)) floor ⌝ }
 {
     let read = jobfile::read_choice(file);
     let verdict = read.verdict;
     if let Verdict::Refused(refusal) = verdict {
         return ChoiceAnswer::Refused(refusal);
     }
-    let n = read.articles;
-    if groups.len() < n {
-        return ChoiceAnswer::Refused(refusal_at(Reason::ShortBuffer, 0));
+    let partition = lending::groups(read, groups);
+    if let Verdict::Refused(refusal) = partition {
+        return ChoiceAnswer::Refused(refusal);
+    }
+    let tested = lending::goals(read.order, goals);
+    if let Verdict::Refused(refusal) = tested {
+        return ChoiceAnswer::Refused(refusal);
     }
     let wishes = read.wishes;
     let clashes = read.clashes;
-    let partition = lent::first_misplaced(&clashes, groups, n);
-    if let Lent::Misplaced(u) = partition {
-        return ChoiceAnswer::Refused(refusal_at(Reason::FalsePartition, u));
-    }
-    let tested = goals::first_bad(read.order, goals);
-    if let Goals::Bad(i) = tested {
-        return ChoiceAnswer::Refused(refusal_at(Reason::BadGoal, i));
-    }
-    let chosen = choice::choose(&wishes, &clashes, n, groups, goals, read.order, floor);
+    let chosen = choice::choose(
+        &wishes,
+        &clashes,
+        read.articles,
+        groups,
+        goals,
+        read.order,
+        floor,
+    );
     match chosen {
         Choice::Chosen(x, aside) => {
             ChoiceAnswer::Chosen(ArticleSet { bits: x }, ArticleSet { bits: aside })
         }
-        Choice::Nothing => ChoiceAnswer::Refused(refusal_at(Reason::NoSelection, 0)),
+        Choice::Nothing => ChoiceAnswer::Refused(lending::refusal_at(Reason::NoSelection, 0)),
     }
+}
+
+// ---- fitting files
+
+// The facts of a layer, or why it is refused.
+pub enum FactsAnswer {
+    Facts(u32),
+    Refused(Refusal),
+}
+
+// Fact layer k: its facts, and for each of 32 facts those that it is mutex with, in its word. Later
+// words keep.
+pub fn fact_layer(file: &[u8], k: usize, words: &mut [u32]) -> FactsAnswer
+    ensures { λ r. ⌜ record { answer = factsTold r; buffer = now (words .exit) } ≡ factLayerOf (now (file .entry)) k (now (words .entry)) ⌝ }
+{
+    let read = jobfile::read_fitting(file);
+    let verdict = read.verdict;
+    if let Verdict::Refused(refusal) = verdict {
+        return FactsAnswer::Refused(refusal);
+    }
+    let tested = lending::layer(k, 0, read.horizon, words.len(), 32);
+    if let Verdict::Refused(refusal) = tested {
+        return FactsAnswer::Refused(refusal);
+    }
+    let layer = expansion::fact_layer(read, k);
+    let mutex = layer.words;
+    written::facts(words, &mutex);
+    FactsAnswer::Facts(layer.members as u32)
+}
+
+// The vertices of a layer, or why it is refused.
+pub enum VerticesAnswer {
+    Vertices(u64),
+    Refused(Refusal),
+}
+
+// Round layer k: its vertices, and for each of 64 vertices those that it is mutex with, in its word.
+// Later words keep.
+pub fn round_layer(file: &[u8], k: usize, words: &mut [u64]) -> VerticesAnswer
+    ensures { λ r. ⌜ record { answer = verticesTold r; buffer = now (words .exit) } ≡ roundLayerOf (now (file .entry)) k (now (words .entry)) ⌝ }
+{
+    let read = jobfile::read_fitting(file);
+    let verdict = read.verdict;
+    if let Verdict::Refused(refusal) = verdict {
+        return VerticesAnswer::Refused(refusal);
+    }
+    let tested = lending::layer(k, 1, read.horizon, words.len(), 64);
+    if let Verdict::Refused(refusal) = tested {
+        return VerticesAnswer::Refused(refusal);
+    }
+    let layer = expansion::round_layer(read, k);
+    let mutex = layer.words;
+    written::vertices(words, &mutex);
+    VerticesAnswer::Vertices(layer.members)
+}
+
+// How many rounds a plan has, or why there is none.
+pub enum PlanAnswer {
+    Rounds(usize),
+    Refused(Refusal),
 }
 
 // The fewest rounds of a plan within the file's horizon; the rounds of such a plan stand in the words
 // in front, in their order, each as a set of steps. Which of the shortest plans it is, is free.
 pub fn plan(file: &[u8], words: &mut [u32]) -> PlanAnswer
-    ensures { λ r. ⌜ r ≡ planAnswer (planOf (now (file .entry)) (now (words .entry))) ⌝ }
+    ensures { λ r. ⌜ planTold r ≡ planOf (now (file .entry)) (now (words .entry)) ⌝ }
     ensures { λ r. ⌜ Buffer (readJob fittings (now (file .entry))) (now (words .entry)) (now (words .exit)) (planOf (now (file .entry)) (now (words .entry))) ⌝ }
 {
     let read = jobfile::read_fitting(file);
@@ -100,15 +196,18 @@ pub fn plan(file: &[u8], words: &mut [u32]) -> PlanAnswer
     if let Verdict::Refused(refusal) = verdict {
         return PlanAnswer::Refused(refusal);
     }
-    if words.len() < read.horizon {
-        return PlanAnswer::Refused(refusal_at(Reason::ShortBuffer, 0));
+    let tested = lending::room(words.len(), read.horizon);
+    if let Verdict::Refused(refusal) = tested {
+        return PlanAnswer::Refused(refusal);
     }
     let made = planner::plan(read, words);
     match made {
         Planned::Rounds(k) => PlanAnswer::Rounds(k),
-        Planned::Nothing => PlanAnswer::Refused(refusal_at(Reason::NoPlan, 0)),
+        Planned::Nothing => PlanAnswer::Refused(lending::refusal_at(Reason::NoPlan, 0)),
     }
 }
+
+// ---- names and comparison
 
 // The name of article or step `number`, as a part of the file: empty for a refused file, an absent
 // number or no name.
@@ -121,46 +220,69 @@ pub fn name(file: &[u8], number: usize) -> &[u8]
     &file[a..e]
 }
 
+// The number of an article or step, or why there is none.
+pub enum FindAnswer {
+    Number(usize),
+    Refused(Refusal),
+}
+
+// What was found, or 16.
+fn found(named: Named) -> FindAnswer
+    ensures { λ r. ⌜ findTold r ≡ found (placeOf named) NameNotFound ⌝ }
+{
+    match named {
+        Named::At(i) => FindAnswer::Number(i),
+        Named::Nowhere => FindAnswer::Refused(lending::refusal_at(Reason::NameNotFound, 0)),
+    }
+}
+
 // The lowest number of an article or step with this name.
-pub fn find(file: &[u8], name: &[u8]) -> Found
-    ensures { λ r. ⌜ r ≡ findOf (readJob either (now (file .entry))) (now (name .entry)) ⌝ }
+pub fn find(file: &[u8], name: &[u8]) -> FindAnswer
+    ensures { λ r. ⌜ findTold r ≡ findOf (now (file .entry)) (now (name .entry)) ⌝ }
 {
     if jobfile::is_fitting(file) {
         let read = jobfile::read_fitting(file);
         let verdict = read.verdict;
         if let Verdict::Refused(refusal) = verdict {
-            return Found::Refused(refusal);
+            return FindAnswer::Refused(refusal);
         }
         let starts = read.starts;
         let lens = read.lens;
-        return names::search(file, starts, lens, read.steps, name);
+        return found(names::search(file, starts, lens, read.steps, name));
     }
     let read = jobfile::read_choice(file);
     let verdict = read.verdict;
     if let Verdict::Refused(refusal) = verdict {
-        return Found::Refused(refusal);
+        return FindAnswer::Refused(refusal);
     }
     let starts = read.starts;
     let lens = read.lens;
-    names::search(file, starts, lens, read.articles, name)
+    found(names::search(file, starts, lens, read.articles, name))
+}
+
+// Whether two files are alike, or why one of them is refused.
+pub enum CompareAnswer {
+    Alike,
+    Unlike,
+    Refused(Refusal),
 }
 
 // Whether two choice files are alike; the first is tested before the second.
-pub fn compare(first: &[u8], second: &[u8]) -> Compared
-    ensures { λ r. ⌜ r ≡ compareOf (readJob choices (now (first .entry))) (readJob choices (now (second .entry))) ⌝ }
+pub fn compare(first: &[u8], second: &[u8]) -> CompareAnswer
+    ensures { λ r. ⌜ compareTold r ≡ compareOf (now (first .entry)) (now (second .entry)) ⌝ }
 {
     let a = jobfile::read_choice(first);
     let verdict = a.verdict;
     if let Verdict::Refused(refusal) = verdict {
-        return Compared::Refused(refusal);
+        return CompareAnswer::Refused(refusal);
     }
     let b = jobfile::read_choice(second);
     let other = b.verdict;
     if let Verdict::Refused(refusal) = other {
-        return Compared::Refused(refusal);
+        return CompareAnswer::Refused(refusal);
     }
     if likeness::alike(a, b) {
-        return Compared::Alike;
+        return CompareAnswer::Alike;
     }
-    Compared::Unlike
+    CompareAnswer::Unlike
 }

@@ -3,14 +3,18 @@ use mathlib.Core.Path.{refl}
 use Rattle.sets.specs.Ranges.{everyTo, anyTo, sumTo, maxTo, listTo}
 use Rattle.sets.specs.Sets.{bit, without, part, meets, everyPair, setOf, unionTo, gathered, countIn, count}
 use Rattle.sets.specs.First.{firstFrom}
+use Rattle.reading.specs.Got.{eachAt, upFrom}
+use Rattle.reading.specs.Items.{kindAt, valueAt, numberAt, countAt, mapAt, setAt, fieldAt}
+use Rattle.jobfile.specs.Layout.{choice, fitting, layoutOf}
+use Rattle.jobfile.specs.Read.{setsAt, entryAt, bodyAt, read, readJob}
 use Rattle.network.specs.Network.{clash, together}
-use Rattle.network.specs.Groups.{suits, opened, joins, groupsTo, groupOf}
-use Rattle.network.specs.Filter.{share, contribution, others, supported, pass}
+use Rattle.network.specs.Groups.{misplaced, firstMisplaced, suits, opened, joins, groupsTo}
+use Rattle.network.specs.Filter.{outside, badGoal, firstBad, share, contribution, others, supported, pass, passes, setAside}
 use Rattle.choice.specs.Choice.{isCover, smallest}
 use Rattle.graph.specs.Rounds.{disturb, after, isRound, leads, leadsIn, fewest}
 use Rattle.graph.specs.Layers.{mutexes, opposed, stands, rivals, standing, roundOver, givers, excluded, givenBy, factsOver, factLayer}
 use Rattle.examples.specs.Table.{Hold, rows}
 
 pub table : Hold rows
-unfolding everyTo sumTo maxTo bit without part everyPair setOf unionTo gathered countIn count firstFrom clash together suits opened joins groupsTo groupOf share contribution others supported pass isCover smallest anyTo listTo meets disturb after isRound leads leadsIn fewest mutexes opposed stands rivals standing roundOver givers excluded givenBy factsOver factLayer
-table = (refl, (refl, (refl, (refl, (refl, (refl, (refl, (refl, (refl, (refl, (refl, (refl, (refl, (refl, (refl, tt)))))))))))))))
+unfolding everyTo anyTo sumTo maxTo listTo bit without part meets everyPair setOf unionTo gathered countIn count firstFrom eachAt upFrom kindAt valueAt numberAt countAt mapAt setAt fieldAt choice fitting layoutOf setsAt entryAt bodyAt read readJob clash together misplaced firstMisplaced suits opened joins groupsTo outside badGoal firstBad share contribution others supported pass passes setAside isCover smallest disturb after isRound leads leadsIn fewest mutexes opposed stands rivals standing roundOver givers excluded givenBy factsOver factLayer
+table = (refl, (refl, (refl, (refl, (refl, (refl, (refl, (refl, (refl, (refl, (refl, (refl, (refl, (refl, (refl, (refl, (refl, (refl, (refl, (refl, (refl, tt)))))))))))))))))))))

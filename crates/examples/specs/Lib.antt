@@ -1,3 +1,3 @@
--- The examples that docs/RULES.md marks with a star: their jobs, and the table.
-pub mod Jobs
+-- The examples that docs/RULES.md marks with a star: their files, and the table.
+pub mod Files
 pub mod Table

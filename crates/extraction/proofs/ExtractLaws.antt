@@ -15,9 +15,14 @@ use Rattle.sets.proofs.Bits.{bit-le, bit-cases, bit-empty, bit-or, bit-without,
 use Rattle.sets.proofs.Made.{gathered-at, gathered-from}
 use Rattle.network.specs.Network.{Network, listed}
 use Rattle.tables.specs.Tables.{Tabled}
-use Rattle.choice.specs.Choice.{Cover}
+use Rattle.choice.specs.declared.Found.{Found}
+use Rattle.choice.specs.declared.Found.the-variants as Found
+use Rattle.choice.specs.Choice.{Cover, smallest}
+use Rattle.choice.specs.Search.{foundBy, Finds}
 use Rattle.choice.proofs.CoverLaws.{widened}
-use Rattle.extraction.specs.Extraction.{Graph, rowOf, Picks, needed, Back, Held, Fine, Nogoods, StoredIf, Opens, Uncovered, Blocked, Lacking, Refuses}
+use Rattle.questions.specs.Questions.{rowOf, Opens, Uncovered}
+use Rattle.questions.proofs.LayerLaws.{asked}
+use Rattle.extraction.specs.Extraction.{Graph, Picks, needed, Back, Held, Fine, Nogoods, StoredIf, Blocked, Lacking, Refuses}
 use Rattle.extraction.proofs.NogoodLaws.{stored-if, whole-box}
 
 -- ---- sets
@@ -32,6 +37,11 @@ lacking-part s a f z h = in-part s (without a (2 ^ f)) (λ i m. less-in a f i (p
 -- a cover of g covers a part of g
 pub cover-part : (N : Network) {allowed x : ℕ} (g h : ℕ) → h ⊆ g → Cover N allowed g x → Cover N allowed h x
 cover-part N g h p c = record { within = c .within; free = c .free; covers = λ i. le-trans (p i) (c .covers i) }
+
+-- a selection that a question is answered with covers the facts
+pub asked-set : (N : Network) (allowed need : ℕ) {r : Found} {x : ℕ} → allowed < 2 ^ N .articles → r ≡ foundBy (smallest N allowed need 0) → r ≡ Found.Set x
+    → Cover N allowed need x
+asked-set N allowed need h e q = subst (λ (f : Found). Finds N allowed need f) q (asked N allowed need h e)
 
 module _ (T : Graph) where
   -- the network of round layer j + 1

@@ -1,4 +1,3 @@
 -- The laws that plan extraction rests on.
-pub mod LayerLaws
 pub mod NogoodLaws
 pub mod ExtractLaws

@@ -5,11 +5,12 @@ use mathlib.Core.Bool.{Bool, true, false}
 use mathlib.Core.List.{List}
 use mathlib.Core.Logic.{_⊎_}
 use Prim.Native.Nat.{ℕ, zero, suc, _+_, _*_, _/_, _%_, _^_, _≤_, _<_}
-use lib.ListN.{length, getD, take, drop}
-use Rattle.sets.specs.Sets.{_∈_, _⊆_, gathered}
+use lib.ListN.{length, getD}
+use Rattle.sets.specs.Sets.{_⊆_, gathered}
 use Rattle.network.specs.Network.{listed}
 use Rattle.tables.specs.Tables.{Tabled}
 use Rattle.choice.specs.Choice.{Cover}
+use Rattle.questions.specs.Questions.{rowOf}
 use Rattle.extraction.specs.declared.Outcome.{Outcome}
 use Rattle.extraction.specs.declared.Outcome.the-variants as Outcome
 
@@ -24,10 +25,6 @@ pub record Graph : Type 0 where
 
 abbrev pub graph : List ℕ → List ℕ → List ℕ → List ℕ → ℕ → ℕ → Graph
 graph needs gives members words start all = record { start = start; all = all; needs = needs; gives = gives; members = members; words = words }
-
--- the mutex words of round layer j + 1
-unfoldable pub rowOf : List ℕ → ℕ → List ℕ
-rowOf words j = take 64 (drop (64 * j) words)
 
 -- x is a selection of round layer j + 1 for the facts g
 abbrev pub Picks : Graph → ℕ → ℕ → ℕ → Type 0
@@ -78,18 +75,6 @@ StoredIf true k e old new = Stored k e old new
 StoredIf false k e old new = new ≡ old
 
 -- ---- boxes: of the selections for a goal, those whose needs lie in `may` and include `must`
-
--- v has the vertices of m whose needs lie in may
-pub record Opens (needs : List ℕ) (m may v : ℕ) : Type 0 where
-  pub within : v ⊆ m
-  pub inside : (i : ℕ) → i ∈ v → getD needs i 0 ⊆ may
-  pub whole : (i : ℕ) → i ∈ m → getD needs i 0 ⊆ may → i ∈ v
-
--- e, between why and g, which no selection of the vertices v covers
-pub record Uncovered (gives row : List ℕ) (v g why e : ℕ) : Type 0 where
-  pub keeps : why ⊆ e
-  pub part : e ⊆ g
-  pub uncovered : (x : ℕ) → Cover (listed 64 gives row) v e x → ⊥
 
 -- e, between why and g: no selection of round layer j + 1 for e in the box has needs that j rounds reach
 pub record Blocked (T : Graph) (j g may must why e : ℕ) : Type 0 where

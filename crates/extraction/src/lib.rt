@@ -7,7 +7,6 @@ ghost use lib.ListN.{length};
 ghost use Rattle.sets.specs.Sets.{_⊆_};
 ghost use Rattle.extraction.specs.Extraction.{graph, Fine, Nogoods, Extracted};
 
-mod layer;
 mod nogoods;
 
 use choice::Found;
@@ -73,10 +72,10 @@ pub fn extract(
         return Outcome::Refuted(c | why);
     }
     let j = k - 1;
-    let open = layer::open_to(needs, members[j], may);
-    let picked = layer::ask(gives, carriers, words, j, open, goal);
+    let open = questions::open_to(needs, members[j], may);
+    let picked = questions::ask(gives, carriers, words, j, open, goal);
     let Found::Set(selection) = picked else {
-        let e = layer::explain(gives, carriers, words, j, open, goal, why);
+        let e = questions::explain(gives, carriers, words, j, open, goal, why);
         nogoods::store(table, k, e, first);
         return Outcome::Refuted(e);
     };

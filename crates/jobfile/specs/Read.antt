@@ -1,12 +1,12 @@
 -- Reading a file front to back (docs/RULES.md, "Reasons to turn a call down"): one function for every layout.
-use mathlib.Core.Bool.{Bool, true, false, _||_}
+use mathlib.Core.Bool.{Bool, _||_}
 use mathlib.Core.List.{List, [], _∷_}
 use Prim.Native.Nat.{ℕ, suc}
 use lib.Dec.{ltb, eqb}
 use lib.ListN.{length, getD}
 use Rattle.sets.specs.Sets.{member}
 use Rattle.reading.specs.declared.Reason.the-variants.{TrailingBytes}
-use Rattle.reading.specs.Got.{Got, got, refused, Reader, refuse, andThen, optional, eachAt, upFrom}
+use Rattle.reading.specs.Got.{Got, got, Reader, refuse, andThen, optional, eachAt, upFrom}
 use Rattle.reading.specs.Items.{Naming, bytesIn, kindAt, countAt, mapAt, setAt, fieldAt, nameAt}
 use Rattle.jobfile.specs.Layout.{Bound, counted, own, SetField, Layout, layoutOf}
 use Rattle.jobfile.specs.Job.{Entry, Job}
@@ -60,8 +60,3 @@ either kind = eqb kind 67 || eqb kind 70
 -- the job that a file states, with its names by their bytes, or why it is refused
 unfoldable pub readJob : (ℕ → Bool) → List ℕ → Got (Job (List ℕ))
 readJob takes f = read (bytesIn f) takes f
-
--- whether a reading accepts its file
-abbrev pub accepted : {A : Type 0} → Got A → Bool
-accepted (refused reason place) = false
-accepted (got value next) = true

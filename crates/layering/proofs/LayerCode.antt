@@ -14,7 +14,7 @@ use Rattle.sets.specs.Sets.{part, meets, setOf, gathered}
 use Rattle.sets.proofs.Ranges.{list-at, list-past, list-length}
 use Rattle.network.proofs.ListedLaws.{padded-at}
 use Rattle.graph.specs.Rounds.{Steps, Fitting, listedSteps, disturb}
-use Rattle.graph.specs.Layers.{Layer, mutexes, vertices, opposed, stands, rivals, standing, roundOver, givers, excluded, givenBy, factsOver, factLayer}
+use Rattle.graph.specs.Layers.{Layer, mutexes, vertices, opposed, stands, rivals, standing, roundOver, givers, excluded, givenBy, factsOver, factLayer, roundLayer}
 use Rattle.graph.specs.Back.{Sized}
 use Rattle.layering.specs.Drawn.{layer, roomy, vertexWords}
 use Rattle.graph.proofs.WordLaws.{words-length}
@@ -86,6 +86,10 @@ pub facts-length : (w : ℕ) (F : Fitting) (k : ℕ) → length (factLayer w F k
 unfolding factLayer factsOver
 facts-length w F zero = list-length w (λ p. 0)
 facts-length w F (suc k) = words-length w _ _
+
+pub rounds-length : (w : ℕ) (F : Fitting) (k : ℕ) → length (roundLayer w F k .words) ≡ w + w
+unfolding roundOver
+rounds-length w F k = words-length (w + w) _ _
 
 -- the start in an array
 pub layer-start : (F : Fitting) → layer (F .start) (replicate {A = ℕ} 64 0) ≡ roomy 64 (factLayer 32 F 0)

@@ -1,5 +1,4 @@
--- The laws that the code of the layers rests on; and that a fitting file as read has room for its facts and steps.
+-- The laws that the code of the layers rests on.
 pub mod RoundCode
 pub mod FactCode
 pub mod LayerCode
-pub mod ReadLaws

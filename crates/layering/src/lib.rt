@@ -1,21 +1,19 @@
-// The layers of the planning graph on words of 64 bits. Facts are bits 0 to 31. Of the vertices, bit t
-// is the keeper of fact t, and bit 32 + a is step a.
+// One layer of the planning graph from the one below it, on words of 64 bits. Facts are bits 0 to 31. Of
+// the vertices, bit t is the keeper of fact t, and bit 32 + a is step a.
 ghost use mathlib.Core.Path.{_≡_};
 ghost use mathlib.Core.Bool.{true, false};
 ghost use mathlib.Core.List.{[]};
-ghost use Prim.Native.Nat.{ℕ, _+_, _-_, _^_, _≤_, _<_};
+ghost use Prim.Native.Nat.{ℕ, _+_, _^_, _≤_, _<_};
 ghost use lib.ListN.{getD};
 ghost use Rattle.sets.specs.Ranges.{listTo};
 ghost use Rattle.graph.specs.Rounds.{listedSteps};
-ghost use Rattle.graph.specs.Layers.{factLayer, roundLayer, roundOver, factsOver};
-ghost use Rattle.graph.specs.Back.{Sized};
-ghost use Rattle.layering.specs.Drawn.{layer, roomy, vertexWords, fittingIn};
+ghost use Rattle.graph.specs.Layers.{roundOver, factsOver};
+ghost use Rattle.layering.specs.Drawn.{layer, roomy, vertexWords};
 
 mod facts;
 mod rounds;
 mod vertices;
 
-use jobfile::ReadFitting;
 use sets::word;
 
 // The members of a layer, and for each of them those that it is mutex with.
@@ -71,41 +69,4 @@ pub fn facts_over(gives: &[u64; 64], below: Layer) -> Layer
         members: members,
         words: mutex,
     }
-}
-
-// Fact layer k.
-pub fn fact_layer(job: ReadFitting, k: usize) -> Layer
-    requires { ⌜ Sized 32 (fittingIn job) ⌝ }
-    ensures { λ r. ⌜ layer (r .members) (r .words) ≡ roomy 64 (factLayer 32 (fittingIn job) k) ⌝ }
-{
-    let a = job.needs;
-    let b = job.gives;
-    let c = job.takes;
-    let needs = with_keepers(&a);
-    let gives = with_keepers(&b);
-    let takes = without_keepers(&c);
-    let mut facts = Layer {
-        members: job.start,
-        words: [0; 64],
-    };
-    let mut i: usize = 0;
-    while i < k {
-        facts = facts_over(&gives, round_over(&needs, &gives, &takes, job.steps, facts));
-        i += 1;
-    }
-    facts
-}
-
-// Round layer k.
-pub fn round_layer(job: ReadFitting, k: usize) -> Layer
-    requires { ⌜ Sized 32 (fittingIn job) × (0 < k) ⌝ }
-    ensures { λ r. ⌜ layer (r .members) (r .words) ≡ roundLayer 32 (fittingIn job) k ⌝ }
-{
-    let a = job.needs;
-    let b = job.gives;
-    let c = job.takes;
-    let needs = with_keepers(&a);
-    let gives = with_keepers(&b);
-    let takes = without_keepers(&c);
-    round_over(&needs, &gives, &takes, job.steps, fact_layer(job, k - 1))
 }

@@ -1,32 +1,18 @@
--- The tests of what is lent to a pass, as the code makes them. Assumes nothing.
-use mathlib.Core.Path.{_≡_, refl, sym, ap, _∙_}
+-- Goals that are not refused lie within the order. Assumes nothing.
+use mathlib.Core.Path.{_≡_, refl}
 use mathlib.Core.Bool.{Bool, true, false, not, _||_, true≢false}
 use mathlib.Core.List.{List, [], _∷_}
 use mathlib.Core.Option.{none}
-use Prim.Native.Nat.{ℕ, suc, _^_, _-_, _<_}
+use Prim.Native.Nat.{ℕ, suc, _<_}
 use native.Mathlib.Omega.{arith}
-use lib.Dec.{leb, eqb}
+use lib.Dec.{eqb}
 use lib.ListN.{length, getD}
-use borrow.Author.Tests.{eq-eqb, ne-eqb}
-use Rattle.sets.specs.Sets.{_⊆_, without, part}
-use Rattle.sets.specs.First.{firstFrom}
+use Rattle.sets.specs.Sets.{_⊆_, part}
 use Rattle.sets.proofs.Bits.{yes-part}
-use Rattle.sets.proofs.First.{left-start, first-none}
-use Rattle.network.specs.Filter.{outside, badGoal, firstBad, GoalsWithin}
-
-pub outside-is : (n live : ℕ) → leb (2 ^ n) live ≡ outside n live
-unfolding outside
-outside-is n live = refl
+use Rattle.sets.proofs.First.{first-none}
+use Rattle.network.specs.Filter.{badGoal, firstBad, GoalsWithin}
 
 module _ (order p : ℕ) where
-  pub bad-empty : p ≡ 0 → true ≡ badGoal order p
-  unfolding badGoal
-  bad-empty e = sym (ap (λ t. t || not (part p order)) (eq-eqb p 0 e))
-
-  pub bad-part : (p ≡ 0 → ⊥) → {r : ℕ} → r ≡ without p order → not (eqb r 0) ≡ badGoal order p
-  unfolding badGoal part
-  bad-part d e = ap (λ (x : ℕ). not (eqb x 0)) e ∙ sym (ap (λ t. t || not (eqb (without p order) 0)) (ne-eqb p 0 d))
-
   -- a goal that is not refused lies within the order
   pub good-part : badGoal order p ≡ false → p ⊆ order
   unfolding badGoal
@@ -36,11 +22,6 @@ module _ (order p : ℕ) where
       go true b e = absurd (true≢false e)
       go false true e = refl
       go false false e = absurd (true≢false e)
-
--- all goals are left at first
-pub all-left : (order : ℕ) (goals : List ℕ) → firstFrom (λ i. badGoal order (getD goals i 0)) (length goals) (length goals - length goals) ≡ firstBad order goals
-unfolding firstBad
-all-left order goals = left-start (λ i. badGoal order (getD goals i 0)) (length goals)
 
 -- where no goal is refused, each lies within the order
 pub goals-within : (order : ℕ) (goals : List ℕ) → firstBad order goals ≡ none → GoalsWithin order goals

@@ -4,6 +4,5 @@ pub mod GroupLaws
 pub mod LentLaws
 pub mod FilterLaws
 pub mod PartitionLaws
-pub mod PassLaws
 pub mod GoalLaws
 pub mod ListedLaws

@@ -10,7 +10,7 @@ use Rattle.sets.proofs.Ranges.{one-more}
 use Rattle.graph.specs.Rounds.{Fitting}
 use Rattle.graph.specs.Layers.{Layer}
 use Rattle.layering.specs.Drawn.{layer}
-use Rattle.extraction.specs.Extraction.{rowOf}
+use Rattle.questions.specs.Questions.{rowOf}
 use Rattle.planner.specs.Tabulated.{roundAfter, Laid, Put}
 
 -- ---- a row

@@ -26,7 +26,8 @@ use Rattle.graph.proofs.PlanLaws.{PlanOf, none-fewest, some-fewest, reaches-mor
 use Rattle.graph.proofs.WordLaws.{words-length, rounds-words, rounds-turned}
 use Rattle.graph.proofs.LayerLaws.{roomy}
 use Rattle.graph.proofs.BackLaws.{forth, back}
-use Rattle.extraction.specs.Extraction.{Graph, graph, rowOf, Picks, needed, Back, Held, Fine}
+use Rattle.questions.specs.Questions.{rowOf}
+use Rattle.extraction.specs.Extraction.{Graph, graph, Picks, needed, Back, Held, Fine}
 use Rattle.planner.specs.Planner.{plannedBy, Words}
 use Rattle.planner.specs.Tabulated.{roundAfter, Tabulated, Laid, Searched}
 use Rattle.planner.specs.declared.Planned.{Planned}

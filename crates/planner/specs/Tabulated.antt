@@ -8,7 +8,8 @@ use Rattle.sets.specs.Sets.{full}
 use Rattle.graph.specs.Rounds.{Fitting}
 use Rattle.graph.specs.Layers.{Layer, vertices, factLayer, roundOver}
 use Rattle.graph.specs.Back.{Sized}
-use Rattle.extraction.specs.Extraction.{Graph, rowOf, Back, Held}
+use Rattle.questions.specs.Questions.{rowOf}
+use Rattle.extraction.specs.Extraction.{Graph, Back, Held}
 use Rattle.planner.specs.declared.Planned.{Planned}
 use Rattle.planner.specs.declared.Planned.the-variants as Planned
 

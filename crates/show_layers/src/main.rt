@@ -60,12 +60,12 @@ fn show_layer(kind: &[u8], k: usize, layer: Layer, whole: bool) {
 fn show_layers(job: ReadFitting, whole: bool)
     requires { ⌜ Sized 32 (fittingIn job) ⌝ }
 {
-    show_layer(b"fact layer ", 0, layering::fact_layer(job, 0), whole);
+    show_layer(b"fact layer ", 0, expansion::fact_layer(job, 0), whole);
     let mut k: usize = 0;
     while k < job.horizon {
         k += 1;
-        show_layer(b"round layer ", k, layering::round_layer(job, k), whole);
-        show_layer(b"fact layer ", k, layering::fact_layer(job, k), whole);
+        show_layer(b"round layer ", k, expansion::round_layer(job, k), whole);
+        show_layer(b"fact layer ", k, expansion::fact_layer(job, k), whole);
     }
 }
 

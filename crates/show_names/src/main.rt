@@ -1,7 +1,7 @@
 // Shows what `name`, `find` and `compare` answer. reference/names.py prints the same text from a
 // reader of its own.
-use calls::Compared;
-use calls::Found;
+use calls::CompareAnswer;
+use calls::FindAnswer;
 
 fn find(wanted: &[u8], label: &[u8], file: &[u8]) {
     print::say(b"find [");
@@ -10,11 +10,11 @@ fn find(wanted: &[u8], label: &[u8], file: &[u8]) {
     print::say(label);
     let found = calls::find(file, wanted);
     match found {
-        Found::At(i) => {
+        FindAnswer::Number(i) => {
             print::say_number(b": ", i as u64);
             print::say(b"\n");
         }
-        Found::Refused(refusal) => {
+        FindAnswer::Refused(refusal) => {
             print::say(b": ");
             samples::say_refusal(refusal);
         }
@@ -36,9 +36,9 @@ fn compare(label: &[u8], first: &[u8], second: &[u8]) {
     print::say(b": ");
     let compared = calls::compare(first, second);
     match compared {
-        Compared::Alike => print::say(b"alike\n"),
-        Compared::Unlike => print::say(b"unlike\n"),
-        Compared::Refused(refusal) => samples::say_refusal(refusal),
+        CompareAnswer::Alike => print::say(b"alike\n"),
+        CompareAnswer::Unlike => print::say(b"unlike\n"),
+        CompareAnswer::Refused(refusal) => samples::say_refusal(refusal),
     }
 }
 

@@ -1,14 +1,13 @@
-// Shows what the planner answers: the examples of the rules, jobs at their edges, puzzles, and drawn
-// jobs. Which of the shortest plans comes back is free. So a plan is tried by the rules, and its rounds
-// are printed only where no other plan is as short. reference/plans.py prints the same text from a search
-// of its own.
+// Shows what the planner answers: the examples of the rules, jobs at their edges, and puzzles. Which of
+// the shortest plans comes back is free. So a plan is tried by the rules, and its rounds are printed
+// only where no other plan is as short. reference/plans.py prints the same text from a search of its
+// own.
 ghost use Prim.Native.Nat.{_≤_};
 use calls::PlanAnswer;
 use puzzles::Puzzle;
 use reading::Refusal;
 use trials::Job;
 use trials::Step;
-use trials::draw;
 use trials::rounds;
 
 // Whether the words from one on are as they were, and the end of the line.
@@ -215,24 +214,6 @@ fn lamps() {
     );
 }
 
-// 12 steps over 12 facts, each set by two or three draws.
-fn drawn(seed: u64) -> Job {
-    let start = draw::take(seed, 3, 12);
-    let goal = draw::take(start.x, 3, 12);
-    let mut job = Job::bare(12, 16, start.set, goal.set);
-    let mut x = goal.x;
-    let mut i: usize = 0;
-    while i < 12 {
-        let needs = draw::take(x, 2, 12);
-        let gives = draw::take(needs.x, 2, 12);
-        let takes = draw::take(gives.x, 3, 12);
-        job = job.with(Step::new(needs.set, gives.set, takes.set));
-        x = takes.x;
-        i += 1;
-    }
-    job
-}
-
 // Whether two rounds, or the first of them, are a plan: most of these are none.
 fn judge(label: &[u8], job: Job, first: u32, second: u32, l: usize) {
     let mut words = trials::marked();
@@ -272,6 +253,4 @@ fn main() {
     rings();
     robots();
     lamps();
-    show(b"drawn, 12 steps", drawn(88172645463325333));
-    show(b"drawn, 12 other steps", drawn(88172645463325310));
 }

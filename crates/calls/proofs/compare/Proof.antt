@@ -1,31 +1,9 @@
--- `calls::compare` meets its contract.
+-- `calls::compare` meets its contract: each return by what the readers and the test told.
 use borrow.Author.Needs.{needs}
-use mathlib.Core.Path.{_≡_, sym, ap, ap₂, _∙_}
-use mathlib.Core.Bool.{Bool}
-use mathlib.Core.List.{List}
-use Prim.Native.Nat.{ℕ}
-use Rattle.reading.specs.Items.{spots}
-use Rattle.jobfile.specs.declared.Verdict.the-variants as Verdict
-use Rattle.jobfile.specs.declared.ReadChoice.{ReadChoice}
-use Rattle.jobfile.specs.Answers.{choiceOf, ChoiceBounds}
-use Rattle.jobfile.specs.Read.{read, readJob, choices}
-use Rattle.jobfile.proofs.NamingLaws.{mapGot, jobBy, read-same}
-use Rattle.calls.specs.Compare.{comparedBy, compareOf}
-use Rattle.calls.proofs.CallLaws.{choice-taken, choice-down, byArrays, compare-first, compare-second, compare-is}
+use mathlib.Core.Path.{ap}
+use Rattle.calls.proofs.NameLaws.{compare-first, compare-second, compare-both}
 use Rattle.calls.proofs.compare.Statement.{statement}
 use Rattle.calls.proofs.compare.Tie as tie
-
--- what was read with the names as spots, with the names as bytes
-readings : (f s : List ℕ) → compareOf (mapGot (jobBy f) (read spots choices f)) (mapGot (jobBy s) (read spots choices s)) ≡ compareOf (readJob choices f) (readJob choices s)
-readings f s = sym (ap₂ compareOf (read-same f choices) (read-same s choices))
-
--- two readings that were accepted, and the test of their sets
-both : (f s : List ℕ) (a b : ReadChoice) {r : Bool} → a ≡ choiceOf (read spots choices f) → ChoiceBounds f a → a .verdict ≡ Verdict.Accepted → b ≡ choiceOf (read spots choices s) → ChoiceBounds s b → b .verdict ≡ Verdict.Accepted
-    → r ≡ byArrays a b → comparedBy r ≡ compareOf (readJob choices f) (readJob choices s)
-both f s a b {r} ea ba va eb bb vb e =
-    let g = read spots choices f in
-    let h = read spots choices s in
-    compare-is f s g h a b r (choice-taken g (ap (λ x. x .verdict) ea) va) (choice-taken h (ap (λ x. x .verdict) eb) vb) ea eb (ba .3) (bb .3) e ∙ readings f s
 
 read-choice-requires : tie.Need-read-choice-requires
 read-choice-requires c κs = search needs
@@ -35,9 +13,8 @@ enum-known-verdict c = search needs
 
 returns : tie.Need-returns
 returns c =
-    let f = c .before .before .before .before .before .before .args .first .now in
-    let s = c .before .before .before .before .before .before .args .second .now in
-    compare-first f s (read spots choices f) (read spots choices s) (choice-down (read spots choices f) (ap (λ x. x .verdict) (c .before .before .before .read-choice .ensures .0)) (c .before .verdict .given .1)) ∙ readings f s
+    let a = c .before .before .before .before .before .before .args in
+    compare-first (a .first .now) (a .second .now) (ap (λ x. x .verdict) (c .before .before .before .read-choice .ensures .0)) (c .before .verdict .given .1)
 
 enum-told : tie.Need-enum-told
 enum-told c = search needs
@@ -50,10 +27,9 @@ enum-known-other c = search needs
 
 returns-2 : tie.Need-returns-2
 returns-2 c =
-    let f = c .before .before .before .before .before .before .before .before .before .args .first .now in
-    let s = c .before .before .before .before .before .before .before .before .before .args .second .now in
-    compare-second f s (read spots choices f) (read spots choices s) (choice-taken (read spots choices f) (ap (λ x. x .verdict) (c .before .before .before .before .before .before .read-choice .ensures .0)) (c .before .before .before .before .enum-told .given .1))
-    (choice-down (read spots choices s) (ap (λ x. x .verdict) (c .before .before .before .read-choice2 .ensures .0)) (c .before .other .given .1)) ∙ readings f s
+    let w = c .before .before .before .before .before .before .before .before .before .args in
+    let a = c .before .before .before .before .before .before .read-choice in
+    compare-second (w .first .now) (w .second .now) (a .result) (a .ensures .0) (a .ensures .1) (c .before .before .before .before .enum-told .given .1) (ap (λ x. x .verdict) (c .before .before .before .read-choice2 .ensures .0)) (c .before .other .given .1)
 
 enum-told-2 : tie.Need-enum-told-2
 enum-told-2 c = search needs
@@ -63,17 +39,17 @@ alike-requires c κs = search needs
 
 returns-3 : tie.Need-returns-3
 returns-3 c =
+    let w = c .before .before .before .before .before .before .before .before .before .before .args in
     let a = c .before .before .before .before .before .before .before .read-choice in
     let b = c .before .before .before .before .read-choice2 in
-    ap comparedBy (sym (c .if1 .taken))
-    ∙ both (c .before .before .before .before .before .before .before .before .before .before .args .first .now) (c .before .before .before .before .before .before .before .before .before .before .args .second .now) (a .result) (b .result) (a .ensures .0) (a .ensures .1) (c .before .before .before .before .before .enum-told .given .1) (b .ensures .0) (b .ensures .1) (c .before .before .enum-told2 .given .1) (c .before .alike .ensures)
+    compare-both (w .first .now) (w .second .now) (a .result) (a .ensures .0) (a .ensures .1) (c .before .before .before .before .before .enum-told .given .1) (b .result) (b .ensures .0) (b .ensures .1) (c .before .before .enum-told2 .given .1) (c .before .alike .ensures) (c .if1 .taken)
 
 returns-4 : tie.Need-returns-4
 returns-4 c =
+    let w = c .before .before .before .before .before .before .before .before .before .before .args in
     let a = c .before .before .before .before .before .before .before .read-choice in
     let b = c .before .before .before .before .read-choice2 in
-    ap comparedBy (sym (c .if1 .left))
-    ∙ both (c .before .before .before .before .before .before .before .before .before .before .args .first .now) (c .before .before .before .before .before .before .before .before .before .before .args .second .now) (a .result) (b .result) (a .ensures .0) (a .ensures .1) (c .before .before .before .before .before .enum-told .given .1) (b .ensures .0) (b .ensures .1) (c .before .before .enum-told2 .given .1) (c .before .alike .ensures)
+    compare-both (w .first .now) (w .second .now) (a .result) (a .ensures .0) (a .ensures .1) (c .before .before .before .before .before .enum-told .given .1) (b .result) (b .ensures .0) (b .ensures .1) (c .before .before .enum-told2 .given .1) (c .before .alike .ensures) (c .if1 .left)
 
 pub compare-spec : {M : Type 1} → statement M
 compare-spec =

@@ -1,10 +1,12 @@
 -- `calls::plan` meets its contract: each return by what the reader, the test and the planner told.
 use borrow.Author.Needs.{needs}
-use mathlib.Core.Path.{refl, ap}
+use mathlib.Core.Path.{refl, ap, sym, subst}
 use denote.Ref.{now}
-use Rattle.layering.specs.Drawn.{fittingIn}
-use Rattle.layering.proofs.ReadLaws.{sized-read}
-use Rattle.calls.proofs.PlanLaws.{plan-short, plan-made, plan-none, plan-refused, plan-file}
+use Rattle.lending.specs.Answers.{refusal}
+use Rattle.lending.proofs.TestLaws.{room-passed}
+use Rattle.expansion.proofs.ReadLaws.{sized-read}
+use Rattle.calls.proofs.CallLaws.{fitting-job}
+use Rattle.calls.proofs.FittingLaws.{Promised, plan-down, plan-short, plan-made, plan-none}
 use Rattle.calls.proofs.plan.Statement.{statement}
 use Rattle.calls.proofs.plan.Tie as tie
 
@@ -17,63 +19,63 @@ enum-known-verdict c = search needs
 returns : tie.Need-returns
 returns c =
     let a = c .before .before .before .before .before .before .args in
-    plan-refused (now (a .file)) (now (a .words)) _ (ap (λ x. x .verdict) (c .before .before .before .read-fitting .ensures .0)) (c .before .verdict .given .1) refl
+    plan-down (now (a .file)) (now (a .words)) _ (ap (λ x. x .verdict) (c .before .before .before .read-fitting .ensures .0)) (c .before .verdict .given .1) refl
 
 enum-told : tie.Need-enum-told
 enum-told c = search needs
 
-refusal-at-requires : tie.Need-refusal-at-requires
-refusal-at-requires c κs = search needs
+room-requires : tie.Need-room-requires
+room-requires c κs = search needs
+
+enum-known-tested : tie.Need-enum-known-tested
+enum-known-tested c = search needs
 
 returns-2 : tie.Need-returns-2
 returns-2 c =
-    let a = c .before .before .before .before .before .before .before .before .args in
-    let old = now (a .words) in
-    let r = c .before .before .before .before .before .read-fitting in
-    let F = fittingIn (r .result) in
-    plan-file (now (a .file)) old _ (r .result) (r .ensures .0) (r .ensures .1) (c .before .before .before .enum-told .given .1) (plan-short F (r .result .horizon) old _ (c .refusal-at .ensures) refl (c .before .if1 .taken))
-
-plan-requires : tie.Need-plan-requires
-plan-requires c κs =
-    let r = c .before .before .before .before .before .read-fitting in
-    (sized-read (now (c .before .before .before .before .before .before .before .before .args .file)) (r .result) (r .ensures .0) (r .ensures .1), r .ensures .1 .2, c .before .if1 .left)
-
-enum-known-made : tie.Need-enum-known-made
-enum-known-made c = search needs
+    let a = c .before .before .before .before .before .before .before .before .before .args in
+    let r = c .before .before .before .before .before .before .read-fitting in
+    let R = fitting-job (now (a .file)) (r .result) (r .ensures .0) (r .ensures .1) (c .before .before .before .before .enum-told .given .1) in
+    plan-short (now (a .file)) (now (a .words)) _ (r .result) R (c .before .before .before .room .ensures) (c .before .tested .given .1) refl
 
 enum-told-2 : tie.Need-enum-told-2
 enum-told-2 c = search needs
 
-refusal-at-requires-2 : tie.Need-refusal-at-requires-2
-refusal-at-requires-2 c κs = search needs
+plan-requires : tie.Need-plan-requires
+plan-requires c κs =
+    let r = c .before .before .before .before .before .before .read-fitting in
+    (sized-read (now (c .before .before .before .before .before .before .before .before .before .args .file)) (r .result) (r .ensures .0) (r .ensures .1), r .ensures .1 .2, room-passed _ _ (c .before .before .before .room .ensures) (c .before .enum-told2 .given .1))
+
+enum-known-made : tie.Need-enum-known-made
+enum-known-made c = search needs
+
+enum-told-3 : tie.Need-enum-told-3
+enum-told-3 c = search needs
+
+refusal-at-requires : tie.Need-refusal-at-requires
+refusal-at-requires c κs = search needs
 
 same-length : tie.Need-same-length
 same-length c = search needs
 
 returns-3 : tie.Need-returns-3
 returns-3 c =
-    let a = c .before .before .before .before .before .before .before .before .before .before .before .before .before .before .args in
-    let old = now (a .words) in
-    let r = c .before .before .before .before .before .before .before .before .before .before .before .read-fitting in
-    let F = fittingIn (r .result) in
+    let a = c .before .before .before .before .before .before .before .before .before .before .before .before .before .before .before .args in
+    let r = c .before .before .before .before .before .before .before .before .before .before .before .before .read-fitting in
+    let R = fitting-job (now (a .file)) (r .result) (r .ensures .0) (r .ensures .1) (c .before .before .before .before .before .before .before .before .before .before .enum-told .given .1) in
     let p = c .before .before .before .before .before .plan in
-    let new = p .last .1 .0 in
-    plan-file (now (a .file)) old new (r .result) (r .ensures .0) (r .ensures .1) (c .before .before .before .before .before .before .before .before .before .enum-told .given .1)
-    (plan-made F (r .result .horizon) old new (c .before .before .before .before .before .before .before .if1 .left) (p .ensures .0) (p .ensures .1) (c .before .made .given .1))
+    plan-made (now (a .file)) (now (a .words)) (p .last .1 .0) (r .result) R (c .before .before .before .before .before .before .before .before .before .room .ensures) (c .before .before .before .before .before .before .before .enum-told2 .given .1) (p .ensures .0) (p .ensures .1) (c .before .made .given .1)
 
 same-length-2 : tie.Need-same-length-2
 same-length-2 c = search needs
 
 returns-4 : tie.Need-returns-4
 returns-4 c =
-    let a = c .before .before .before .before .before .before .before .before .before .before .before .before .before .before .args in
-    let old = now (a .words) in
-    let r = c .before .before .before .before .before .before .before .before .before .before .before .read-fitting in
-    let F = fittingIn (r .result) in
+    let a = c .before .before .before .before .before .before .before .before .before .before .before .before .before .before .before .args in
+    let r = c .before .before .before .before .before .before .before .before .before .before .before .before .read-fitting in
+    let R = fitting-job (now (a .file)) (r .result) (r .ensures .0) (r .ensures .1) (c .before .before .before .before .before .before .before .before .before .before .enum-told .given .1) in
     let p = c .before .before .before .before .before .plan in
-    let new = p .last .1 .0 in
-    plan-file (now (a .file)) old new (r .result) (r .ensures .0) (r .ensures .1) (c .before .before .before .before .before .before .before .before .before .enum-told .given .1)
-    (plan-none F (r .result .horizon) old new (c .before .before .before .before .before .before .before .if1 .left) (p .ensures .0) (p .ensures .1) (c .refusal-at2 .ensures) (c .before .enum-told2 .given .1))
+    subst (λ x. Promised (now (a .file)) (now (a .words)) (p .last .1 .0) (refusal (x .reason) (x .place))) (sym (c .refusal-at .ensures))
+    (plan-none (now (a .file)) (now (a .words)) (p .last .1 .0) (r .result) R (c .before .before .before .before .before .before .before .before .before .room .ensures) (c .before .before .before .before .before .before .before .enum-told2 .given .1) (p .ensures .0) (p .ensures .1) (c .before .enum-told3 .given .1))
 
 pub plan-spec : {M : Type 1} → statement M
 plan-spec =
@@ -83,12 +85,14 @@ plan-spec =
     enum-known-verdict
     returns
     enum-told
-    refusal-at-requires
+    room-requires
+    enum-known-tested
     returns-2
+    enum-told-2
     plan-requires
     enum-known-made
-    enum-told-2
-    refusal-at-requires-2
+    enum-told-3
+    refusal-at-requires
     same-length
     returns-3
     same-length-2

@@ -14,18 +14,19 @@ use Rattle.sets.specs.Sets.{_∈_, _⊆_}
 use Rattle.sets.proofs.Bits.{bit-empty, bit-without, part-refl, part-in, less-lt}
 use Rattle.network.specs.Network.{listed}
 use Rattle.choice.specs.Choice.{Cover}
-use Rattle.extraction.specs.Extraction.{Graph, graph, rowOf, Back, Nogoods, Noted, Extracted}
-use Rattle.extraction.proofs.LayerLaws.{lowest-one, asked-none, asked-set}
+use Rattle.questions.specs.Questions.{rowOf}
+use Rattle.questions.proofs.LayerLaws.{lowest-one, asked-none}
+use Rattle.extraction.specs.Extraction.{Graph, graph, Back, Nogoods, Noted, Extracted}
 use Rattle.extraction.proofs.NogoodLaws.{noted-refutes}
-use Rattle.extraction.proofs.ExtractLaws.{held-more, bottom-held, bottom-lacks, blocked-refuses, refuses-blocked, known-refuses, open-picks, open-needs, leaf, Turning, turning-start, turning-more, turning-last, layer-asked, entry-asked, refuses-whole, stored-refused}
+use Rattle.extraction.proofs.ExtractLaws.{asked-set, held-more, bottom-held, bottom-lacks, blocked-refuses, refuses-blocked, known-refuses, open-picks, open-needs, leaf, Turning, turning-start, turning-more, turning-last, layer-asked, entry-asked, refuses-whole, stored-refused}
 use borrow.Fn.Kinds.{In}
 use borrow.Fn.PlainCycle.{Measures, is, falls, and}
 use Rattle.extraction.proofs.extract.Reads as extract
 use Rattle.extraction.proofs.extract.Kinds as extract-kinds
 use Rattle.extraction.proofs.+extract.Lts-extract as extract-lts
-use Rattle.extraction.proofs.layer.ask.Reads as ask-reads
-use Rattle.extraction.proofs.layer.explain.Reads as explain-reads
-use Rattle.extraction.proofs.layer.open_to.Reads as open-to-reads
+use Rattle.questions.proofs.ask.Reads as ask-reads
+use Rattle.questions.proofs.explain.Reads as explain-reads
+use Rattle.questions.proofs.open_to.Reads as open-to-reads
 use Rattle.extraction.proofs.nogoods.lookup.Reads as lookup-reads
 use Rattle.extraction.proofs.nogoods.store.Reads as store-reads
 use Rattle.extraction.proofs.steps_of.Reads as steps-of-reads

@@ -1,6 +1,6 @@
 -- `show_layers::show` asks for the layers only of a file that was accepted.
 use borrow.Author.Needs.{needs}
-use Rattle.layering.proofs.ReadLaws.{sized-read}
+use Rattle.expansion.proofs.ReadLaws.{sized-read}
 use Rattle.show_layers.proofs.show.Statement.{statement}
 use Rattle.show_layers.proofs.show.Tie as tie
 

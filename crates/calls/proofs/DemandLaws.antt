@@ -1,0 +1,380 @@
+-- The tests of arguments and the ways to join them, each by the faults that it finds; what a call answers behind its tests, on a file and with a
+-- buffer. proofs/Demands.antt is made of these. Assumes nothing.
+use mathlib.Core.Path.{_≡_, refl, sym, ap, ap₂, _∙_, subst}
+use mathlib.Core.Logic.{_⊎_, inl, inr, ⊎-elim}
+use mathlib.Core.Bool.{Bool, true, false, not, _&&_, _||_, true≢false, false≢true}
+use mathlib.Core.List.{List, [], _∷_, _++_}
+use mathlib.Core.Option.{Option, none, some, Option·none-ne-some, Option·some-injective}
+use Prim.Native.Nat.{ℕ, zero, suc, _+_, _-_, _/_, _^_, _≤_, _<_, zero-le}
+use native.Mathlib.Nat.{le-div-iff-mul-le, one-mul, le-trans}
+use native.Mathlib.Decide.{decLe}
+use native.Mathlib.Omega.{arith}
+use lib.Dec.{leb, ltb, eqb}
+use lib.ListN.{length, getD, drop}
+use lib.Seq.{length-take-le}
+use lib.Pow.{pow-pos, pow-mono}
+use borrow.Author.Tests.{leb-true, le-leb, ltb-true, ltb-false, lt-ltb, eqb-true, eqb-false, eq-eqb, not-true, not-false}
+use Rattle.sets.specs.Sets.{_∈_, without, part}
+use Rattle.sets.specs.Ranges.{anyTo}
+use Rattle.sets.specs.First.{firstFrom, LeastFrom, Smallest}
+use Rattle.sets.proofs.Ranges.{both-true, true-both, either-true, any-at, at-any}
+use Rattle.sets.proofs.Bits.{bit-shift, in-without, top-in, yes-part, part-in}
+use Rattle.sets.proofs.Lowest.{some-member}
+use Rattle.sets.proofs.First.{first-smallest, smallest-first}
+use Rattle.reading.specs.declared.Reason.{Reason}
+use Rattle.reading.specs.declared.Reason.the-variants.{WrongKind, LayerOutOfRange, ShortBuffer, FalsePartition, LiveOutsideFile, BadGoal, NoSelection, NoPlan}
+use Rattle.reading.specs.Reasons.{answers}
+use Rattle.reading.specs.Got.{Got, got, refused}
+use Rattle.reading.specs.Items.{kindAt}
+use Rattle.jobfile.specs.Job.{Entry, Job, namesOf, size, order, horizon}
+use Rattle.jobfile.specs.Read.{read, choices, fittings, either, readJob}
+use Rattle.jobfile.specs.Write.{write}
+use Rattle.jobfile.specs.Valid.{Bytes}
+use Rattle.jobfile.proofs.Lawful.{then-got, refuse-got}
+use Rattle.jobfile.proofs.Theorems.{Known, exact}
+use Rattle.network.specs.Network.{Network, networkOf, clash}
+use Rattle.network.specs.Groups.{misplaced, firstMisplaced}
+use Rattle.network.specs.Filter.{outside, badGoal, firstBad, setAside}
+use Rattle.network.proofs.GroupLaws.{lent-right}
+use Rattle.network.proofs.GoalLaws.{goals-within}
+use Rattle.choice.specs.Choice.{selection}
+use Rattle.choice.proofs.Theorems.{none-exactly, the-smallest, set-aside}
+use Rattle.graph.specs.Rounds.{fittingOf, fewest}
+use Rattle.graph.proofs.PlanLaws.{fewest-none, fewest-some}
+use Rattle.lending.specs.Answers.{Answer, refusal, value, onJob, unless, unlessAt, passed, behind, found, accepted, leaving}
+use Rattle.lending.specs.Tests.{roomTest, layerTest, groupsTest, passTest, goalsTest}
+use Rattle.calls.specs.Demands.{Exactly, Refuses, Fault, FirstOf, Wrong, absentLayer, shortBuffer, Misplaced, falsePartition, absentArticle, Bad, wrongGoal, wrongGoals, ChoiceKept, PlanKept}
+use Rattle.calls.specs.Choose.{Chosen, chosenOr, chooseIn}
+use Rattle.calls.specs.Plan.{planIn, WordsIn}
+use Rattle.calls.proofs.ReasonLaws.{file-no-answer}
+
+-- ---- one after the other
+
+pub exactly-then : {A B C : Type 0} → Exactly A B → Exactly B C → Exactly A C
+exactly-then f g = (λ a. g .0 (f .0 a), λ c. f .1 (g .1 c))
+
+same-reason : {A : Type 0} {r s : Reason} {p q : ℕ} → _≡_ {A = Answer A} (refusal r p) (refusal s q) → r ≡ s
+same-reason e = cc
+
+same-place : {A : Type 0} {r s : Reason} {p q : ℕ} → _≡_ {A = Answer A} (refusal r p) (refusal s q) → p ≡ q
+same-place e = cc
+
+no-refusal : {A : Type 0} {x : A} {r : Reason} {p : ℕ} → value x ≡ refusal r p → ⊥
+no-refusal e = let z : _≡_ {A = ℕ} 0 1 = cc in omega arith
+
+-- ---- answers by the faults that turn a call down
+
+-- a call is turned down exactly for the first of these faults
+pub record Tests {A : Type 0} (a : Answer A) (faults : List Fault) : Type 0 where
+  pub exactly : (reason : Reason) (place : ℕ) → Exactly (Refuses a reason place) (FirstOf faults reason place)
+
+-- an answer to input that is accepted has no fault
+pub tests-end : {A : Type 0} (a : Answer A) → accepted a ≡ true → Tests a []
+tests-end (refusal r p) t = record { exactly = λ reason place. (λ w. true≢false (sym t ∙ ap answers (same-reason (w .0)) ∙ w .1), λ w. absurd w) }
+tests-end (value x) t = record { exactly = λ reason place. (λ w. no-refusal (w .0), λ w. absurd w) }
+
+-- Tests that stand together look for these faults. Where a call accepts its input, what it answers is what stands behind them; and it is turned
+-- down exactly for the first of these faults and, behind them, of those that what stands behind them is turned down for.
+pub record Checks (t : Answer (Unit {0})) (faults : List Fault) : Type 1 where
+  pub passes : {A : Type 0} (a : Answer A) → accepted (behind t a) ≡ true → behind t a ≡ a
+  pub tests : {A : Type 0} {a : Answer A} {more : List Fault} → Tests a more → Tests (behind t a) (faults ++ more)
+
+checks-passed : Checks passed []
+checks-passed = record { passes = λ a e. refl; tests = λ h. h }
+
+-- a test that finds the place of a fault
+checks-at : (o : Option ℕ) (At : ℕ → Type 0) (r : Reason) {t : Answer (Unit {0})} {faults : List Fault} → answers r ≡ false → ((u : ℕ) → Exactly (o ≡ some u) (At u)) → Checks t faults
+    → Checks (unlessAt o r t) (record { At = At; reason = r } ∷ faults)
+checks-at (some u) At r stops h c =
+    record {
+      passes = λ a e. absurd (true≢false (sym e ∙ stops));
+      tests = λ rest. record {
+        exactly = λ reason place. (
+          λ w. inl (sym (same-reason (w .0)), h place .0 (ap some (same-place (w .0)))),
+          ⊎-elim
+              (λ w. (ap₂ refusal (sym (w .0)) (Option·some-injective u place (h place .1 (w .1))), ap answers (w .0) ∙ stops))
+              (λ w. absurd (w .0 u (h u .0 refl))),
+        );
+      };
+    }
+checks-at none At r stops h c =
+    record {
+      passes = λ a e. c .passes a e;
+      tests = λ rest. record {
+        exactly = λ reason place. (
+          λ w. inr (λ p at. Option·none-ne-some p (h p .1 at), c .tests rest .exactly reason place .0 w),
+          ⊎-elim (λ w. absurd (Option·none-ne-some place (h place .1 (w .1)))) (λ w. c .tests rest .exactly reason place .1 (w .1)),
+        );
+      };
+    }
+
+-- a test whose fault has place 0
+checks-unless : (b : Bool) (P : Type 0) (r : Reason) {t : Answer (Unit {0})} {faults : List Fault} → answers r ≡ false → Exactly (b ≡ true) P → Checks t faults
+    → Checks (unless b r t) (record { At = λ p. (p ≡ 0) × P; reason = r } ∷ faults)
+checks-unless true P r stops h c = checks-at (some 0) (λ p. (p ≡ 0) × P) r stops (λ u. (λ e. (sym (Option·some-injective 0 u e), h .0 refl), λ w. ap some (sym (w .0)))) c
+checks-unless false P r stops h c = checks-at none (λ p. (p ≡ 0) × P) r stops (λ u. (λ e. absurd (Option·none-ne-some u e), λ w. absurd (false≢true (h .1 (w .1))))) c
+
+-- where all tests pass, what stands behind them is answered
+pub both-pass : {t s : Answer (Unit {0})} {faults more : List Fault} → Checks t faults → Checks s more → {A : Type 0} (a : Answer A) → accepted (behind t (behind s a)) ≡ true → behind t (behind s a) ≡ a
+both-pass {s = s} c d a e = let p = c .passes (behind s a) e in p ∙ d .passes a (sym (ap accepted p) ∙ e)
+
+-- ---- each fault, as its test finds it
+
+-- the first number that passes is the lowest that has the property
+first-exactly : (test : ℕ → Bool) (P : ℕ → Type 0) (n : ℕ) → ((u : ℕ) → Exactly (test u ≡ true) (P u)) → (u : ℕ) → Exactly (firstFrom test n 0 ≡ some u) ((u < n) × P u × ((v : ℕ) → v < u → P v → ⊥))
+first-exactly test P n h u = (to, back)
+  where
+    Here : ℕ → Type 0
+    Here y = (y < n) × P y
+
+    all : n - 0 ≡ n
+    all = omega arith
+
+    to : firstFrom test n 0 ≡ some u → (u < n) × P u × ((v : ℕ) → v < u → P v → ⊥)
+    to e =
+        let found : LeastFrom Here 0 u = subst (Smallest Here 0) (ap (λ (k : ℕ). firstFrom test k 0) all ∙ e) (first-smallest Here test n (λ y w. w .0) (λ y l t. (l, h y .0 t)) (λ y w. h y .1 (w .1)) 0) in
+        let (l, p) = found .holds in
+        (l, p, λ v k q. let f : ⊥ = omega (arith, found .least v (omega arith, q) zero-le) in f)
+
+    back : (u < n) × P u × ((v : ℕ) → v < u → P v → ⊥) → firstFrom test n 0 ≡ some u
+    back (l, p, least) =
+        ap (λ (k : ℕ). firstFrom test k 0) (sym all)
+        ∙ sym (smallest-first Here test n (λ y w. w .0) (λ y l t. (l, h y .0 t)) (λ y w. h y .1 (w .1)) 0 (some u) (record { holds = (l, p); above = zero-le; least = λ y w z. go y (w .1) (decLe u y) }))
+      where
+        go : (y : ℕ) → P y → Dec (u ≤ y) → u ≤ y
+        go y q (yes k) = k
+        go y q (no k) = absurd (least y (omega arith) q)
+
+left-true : (a b : Bool) → a ≡ true → a || b ≡ true
+left-true a b e = ap (λ t. t || b) e
+
+right-true : (a b : Bool) → b ≡ true → a || b ≡ true
+right-true true b e = refl
+right-true false b e = e
+
+either-exactly : {a b : Bool} {P Q : Type 0} → Exactly (a ≡ true) P → Exactly (b ≡ true) Q → Exactly (a || b ≡ true) (P ⊎ Q)
+either-exactly {a} {b} f g = (λ e. ⊎-elim (λ p. inl (f .0 p)) (λ q. inr (g .0 q)) (either-true a b e), ⊎-elim (λ p. left-true a b (f .1 p)) (λ q. right-true a b (g .1 q)))
+
+below-exactly : (a b : ℕ) → Exactly (ltb a b ≡ true) (a < b)
+below-exactly a b = (ltb-true a b, lt-ltb a b)
+
+misplaced-exactly : (N : Network) (group : ℕ → ℕ) (u : ℕ) → Exactly (misplaced N group u ≡ true) (Misplaced N group u)
+unfolding misplaced
+misplaced-exactly N group u = either-exactly (leb-true (N .articles) (group u), le-leb (N .articles) (group u)) (to, back)
+  where
+    test : ℕ → Bool
+    test v = eqb (group v) (group u) && not (clash N v u)
+
+    to : anyTo u test ≡ true → (v : ℕ) × (v < u) × (group v ≡ group u) × (clash N v u ≡ false)
+    to e =
+        let (v, l, t) = any-at u test e in
+        let (p, q) = both-true (eqb (group v) (group u)) (not (clash N v u)) t in
+        (v, l, eqb-true (group v) (group u) p, not-true (clash N v u) q)
+
+    back : (v : ℕ) × (v < u) × (group v ≡ group u) × (clash N v u ≡ false) → anyTo u test ≡ true
+    back (v, l, p, q) = at-any u test v l (true-both (eqb (group v) (group u)) (not (clash N v u)) (eq-eqb (group v) (group u) p) (ap not q))
+
+outside-exactly : (n live : ℕ) → Exactly (outside n live ≡ true) ((u : ℕ) × (n ≤ u) × (u ∈ live))
+unfolding outside
+outside-exactly n live = (to, back)
+  where
+    to : leb (2 ^ n) live ≡ true → (u : ℕ) × (n ≤ u) × (u ∈ live)
+    to e =
+        let h : 1 ≤ live / 2 ^ n = le-div-iff-mul-le {k = 2 ^ n} (pow-pos n) .1 (rw (one-mul (2 ^ n)) (leb-true (2 ^ n) live e)) in
+        let (i, m) = some-member (live / 2 ^ n) (λ z. let f : ⊥ = omega arith in f) in
+        (n + i, omega arith, sym (bit-shift live n i) ∙ m)
+
+    back : (u : ℕ) × (n ≤ u) × (u ∈ live) → leb (2 ^ n) live ≡ true
+    back (u, l, m) = le-leb (2 ^ n) live (le-trans (pow-mono l) (top-in live u m))
+
+bad-exactly : (order goal : ℕ) → Exactly (badGoal order goal ≡ true) (Bad order goal)
+unfolding badGoal part
+bad-exactly order goal = either-exactly (eqb-true goal 0, eq-eqb goal 0) (to, back)
+  where
+    to : not (part goal order) ≡ true → (i : ℕ) × (i ∈ goal) × (i ∈ order → ⊥)
+    to e =
+        let (i, m) = some-member (without goal order) (eqb-false (without goal order) 0 (not-true (part goal order) e)) in
+        let (p, q) = in-without goal order i m in
+        (i, p, λ o. let f : ⊥ = omega arith in f)
+
+    back : (i : ℕ) × (i ∈ goal) × (i ∈ order → ⊥) → not (part goal order) ≡ true
+    back (i, p, q) = go (part goal order) refl
+      where
+        go : (b : Bool) → part goal order ≡ b → not b ≡ true
+        go true e = absurd (q (part-in goal order (yes-part goal order e) i p))
+        go false e = refl
+
+-- ---- the tests of what is lent
+
+pub room-checks : (buffer : List ℕ) (size : ℕ) → Checks (roomTest (length buffer) size) (shortBuffer buffer size ∷ [])
+room-checks buffer size = checks-unless (ltb (length buffer) size) (length buffer < size) ShortBuffer refl (below-exactly (length buffer) size) checks-passed
+
+pub layer-checks : (k lowest highest : ℕ) (buffer : List ℕ) (size : ℕ) → Checks (layerTest k lowest highest (length buffer) size) (absentLayer k lowest highest ∷ shortBuffer buffer size ∷ [])
+layer-checks k lowest highest buffer size =
+    checks-unless (ltb k lowest || ltb highest k) ((k < lowest) ⊎ (highest < k)) LayerOutOfRange refl (either-exactly (below-exactly k lowest) (below-exactly highest k)) (room-checks buffer size)
+
+pub groups-checks : (N : Network) (groups : List ℕ) → Checks (groupsTest N groups) (shortBuffer groups (N .articles) ∷ falsePartition N groups ∷ [])
+unfolding firstMisplaced
+groups-checks N groups =
+    checks-unless (ltb (length groups) (N .articles)) (length groups < N .articles) ShortBuffer refl (below-exactly (length groups) (N .articles))
+    (checks-at (firstMisplaced N group) (falsePartition N groups .At) FalsePartition refl (first-exactly (misplaced N group) (Misplaced N group) (N .articles) (misplaced-exactly N group)) checks-passed)
+  where
+    group : ℕ → ℕ
+    group u = getD groups u 0
+
+pub pass-checks : (articles order live goal : ℕ) → Checks (passTest articles order live goal) (absentArticle articles live ∷ wrongGoal order goal ∷ [])
+pass-checks articles order live goal =
+    checks-unless (outside articles live) ((u : ℕ) × (articles ≤ u) × (u ∈ live)) LiveOutsideFile refl (outside-exactly articles live)
+    (checks-unless (badGoal order goal) (Bad order goal) BadGoal refl (bad-exactly order goal) checks-passed)
+
+pub goals-checks : (order : ℕ) (goals : List ℕ) → Checks (goalsTest order goals) (wrongGoals order goals ∷ [])
+unfolding firstBad
+goals-checks order goals =
+    checks-at (firstBad order goals) (wrongGoals order goals .At) BadGoal refl
+    (first-exactly (λ i. badGoal order (getD goals i 0)) (λ i. Bad order (getD goals i 0)) (length goals) (λ i. bad-exactly order (getD goals i 0))) checks-passed
+
+-- ---- a call on a file
+
+module _ (takes : ℕ → Bool) (file : List ℕ) {A : Type 0} (call : Job (List ℕ) → Answer A) where
+  abbrev on : Got (Job (List ℕ)) → Answer A
+  on g = onJob g call
+
+  -- the file is refused, or the call is turned down on its job
+  pub file-exactly : (reason : Reason) (place : ℕ) (Found : Job (List ℕ) → Type 0) → ((job : Job (List ℕ)) → Exactly (Refuses (call job) reason place) (Found job))
+      → Exactly (Refuses (on (readJob takes file)) reason place) ((readJob takes file ≡ refused reason place) ⊎ ((job : Job (List ℕ)) × (end : ℕ) × (readJob takes file ≡ got job end) × Found job))
+  file-exactly reason place Found h = (to (readJob takes file) refl, ⊎-elim (λ e. (ap on e, file-no-answer takes file e)) (λ w. back w))
+    where
+      to : (g : Got (Job (List ℕ))) → readJob takes file ≡ g → Refuses (on g) reason place → (readJob takes file ≡ refused reason place) ⊎ ((job : Job (List ℕ)) × (end : ℕ) × (readJob takes file ≡ got job end) × Found job)
+      to (refused r p) e w = inl (e ∙ ap₂ refused (same-reason (w .0)) (same-place (w .0)))
+      to (got job end) e w = inr (job, end, e, h job .0 w)
+
+      back : (job : Job (List ℕ)) × (end : ℕ) × (readJob takes file ≡ got job end) × Found job → Refuses (on (readJob takes file)) reason place
+      back (job, end, e, w) = let (r, s) = h job .1 w in (ap on e ∙ r, s)
+
+  pub file-tests : {faults : Job (List ℕ) → List Fault} → ((job : Job (List ℕ)) → Tests (call job) (faults job)) → (reason : Reason) (place : ℕ)
+      → Exactly (Refuses (on (readJob takes file)) reason place) (Wrong takes file faults reason place)
+  file-tests {faults} h reason place = file-exactly reason place (λ job. FirstOf (faults job) reason place) (λ job. h job .exactly reason place)
+
+  -- where a call accepts its input, the file states a job, and the call is the one on that job
+  pub file-taken : accepted (on (readJob takes file)) ≡ true → (job : Job (List ℕ)) × (end : ℕ) × (readJob takes file ≡ got job end) × (on (readJob takes file) ≡ call job) × (accepted (call job) ≡ true)
+  file-taken t = go (readJob takes file) refl t
+    where
+      go : (g : Got (Job (List ℕ))) → readJob takes file ≡ g → accepted (on g) ≡ true → (job : Job (List ℕ)) × (end : ℕ) × (readJob takes file ≡ got job end) × (on (readJob takes file) ≡ call job) × (accepted (call job) ≡ true)
+      go (refused reason place) e t = absurd (false≢true (sym (file-no-answer takes file e) ∙ t))
+      go (got job end) e t = (job, end, e, ap on e, t)
+
+-- a file that is refused is the only fault of a call whose other arguments have none
+pub file-only : (takes : ℕ → Bool) (file : List ℕ) (reason : Reason) (place : ℕ) → Exactly (Wrong takes file (λ job. []) reason place) (readJob takes file ≡ refused reason place)
+file-only takes file reason place = (⊎-elim (λ e. e) (λ w. absurd (w .3)), λ e. inl e)
+
+-- ---- a call that writes
+
+module _ {A B : Type 0} (words : A → List ℕ) (told : A → B) (old : List ℕ) where
+  -- it is turned down as what it writes is
+  pub left-exactly : (a : Answer A) (reason : Reason) (place : ℕ) → Exactly (Refuses (leaving words told old a .answer) reason place) (Refuses a reason place)
+  left-exactly (refusal r p) reason place = (λ w. (ap₂ refusal (same-reason (w .0)) (same-place (w .0)), w .1), λ w. (ap₂ refusal (same-reason (w .0)) (same-place (w .0)), w .1))
+  left-exactly (value x) reason place = (λ w. absurd (no-refusal (w .0)), λ w. absurd (no-refusal (w .0)))
+
+  pub left-taken : (a : Answer A) → accepted (leaving words told old a .answer) ≡ accepted a
+  left-taken (refusal r p) = refl
+  left-taken (value x) = refl
+
+  -- where it is turned down, nothing is written
+  pub left-kept : (a : Answer A) {reason : Reason} {place : ℕ} → leaving words told old a .answer ≡ refusal reason place → leaving words told old a .buffer ≡ old
+  left-kept (refusal r p) e = refl
+  left-kept (value x) e = absurd (no-refusal e)
+
+  -- where it is accepted, n words are written in front
+  pub left-value : {a : Answer A} {x : A} {n : ℕ} → a ≡ value x → length (words x) ≡ n → (leaving words told old a .answer ≡ value (told x)) × (leaving words told old a .buffer ≡ words x ++ drop n old)
+  left-value {x = x} e l = (ap (λ (a : Answer A). leaving words told old a .answer) e, ap (λ (a : Answer A). leaving words told old a .buffer) e ∙ ap (λ (n : ℕ). words x ++ drop n old) l)
+
+-- ---- what an accepted file states
+
+-- the kinds that the calls take are among those that there are
+pub choices-known : Known choices
+choices-known kind e = left-true (eqb kind 67) (eqb kind 70) e
+
+pub fittings-known : Known fittings
+fittings-known kind e = right-true (eqb kind 67) (eqb kind 70) e
+
+pub either-known : Known either
+either-known kind e = e
+
+-- its kind is one that the call takes
+pub kind-taken : (takes : ℕ → Bool) → Known takes → (file : List ℕ) → Bytes file → {job : Job (List ℕ)} {end : ℕ} → readJob takes file ≡ got job end → takes (job .kind) ≡ true
+unfolding readJob read kindAt write
+kind-taken takes known file bytes {job} e =
+    let k = then-got (kindAt takes file 0) _ e in
+    let a = refuse-got (leb (length file) 0) WrongKind 0 _ (k .first) in
+    let b = refuse-got (not (takes (getD file 0 0))) WrongKind 0 _ (a .1) in
+    ap takes (sym (ap (λ (f : List ℕ). getD f 0 0) (exact takes known file bytes e))) ∙ not-false (takes (getD file 0 0)) (b .0)
+
+-- no name stands behind its records
+pub name-past : (entries : List (Entry (List ℕ))) (i : ℕ) → length entries ≤ i → getD (namesOf entries) i [] ≡ []
+name-past [] i l = refl
+name-past (x ∷ entries) zero l = absurd (omega arith)
+name-past (x ∷ entries) (suc i) l = name-past entries i (omega arith)
+
+-- ---- the choice
+
+-- "no selection" is an answer to input that is accepted, and no value is it
+pub chosen-taken : (o : Option ℕ) (aside : ℕ) → accepted (chosenOr o aside) ≡ true
+chosen-taken none aside = refl
+chosen-taken (some x) aside = refl
+
+pub chosen-none : (o : Option ℕ) (aside : ℕ) → Exactly (chosenOr o aside ≡ refusal NoSelection 0) (o ≡ none)
+chosen-none none aside = (λ e. refl, λ e. refl)
+chosen-none (some x) aside = (λ e. absurd (no-refusal e), λ e. absurd (Option·none-ne-some x (sym e)))
+
+module _ (groups goals : List ℕ) (floor : ℕ) where
+  abbrev group : ℕ → ℕ
+  group u = getD groups u 0
+
+  pub choice-is : (job : Job (List ℕ)) → accepted (chooseIn job groups goals floor) ≡ true
+      → chooseIn job groups goals floor ≡ chosenOr (selection (networkOf job) (order job) floor) (setAside (networkOf job) group goals)
+  choice-is job t = both-pass (groups-checks (networkOf job) groups) (goals-checks (order job) goals) (chosenOr (selection (networkOf job) (order job) floor) (setAside (networkOf job) group goals)) t
+
+  -- short groups, a false partition and a bad goal are not accepted, so the filter and the search had what they ask for
+  pub choice-kept : (job : Job (List ℕ)) → accepted (chooseIn job groups goals floor) ≡ true → ChoiceKept job group goals floor (chooseIn job groups goals floor)
+  choice-kept job t = go (ltb (length groups) (size job)) (firstMisplaced (networkOf job) group) (firstBad (order job) goals) (selection (networkOf job) (order job) floor) refl refl refl t
+    where
+      answer : Bool → Option ℕ → Option ℕ → Option ℕ → Answer Chosen
+      answer short misplaced bad s = behind (unless short ShortBuffer (unlessAt misplaced FalsePartition passed)) (behind (unlessAt bad BadGoal passed) (chosenOr s (setAside (networkOf job) group goals)))
+
+      go : (short : Bool) (misplaced bad s : Option ℕ) → firstMisplaced (networkOf job) group ≡ misplaced → firstBad (order job) goals ≡ bad → selection (networkOf job) (order job) floor ≡ s
+          → accepted (answer short misplaced bad s) ≡ true → ChoiceKept job group goals floor (answer short misplaced bad s)
+      go true misplaced bad s p q e t = absurd (false≢true t)
+      go false (some u) bad s p q e t = absurd (false≢true t)
+      go false none (some i) s p q e t = absurd (false≢true t)
+      go false none none none p q e t = (refl, none-exactly (networkOf job) (order job) floor e)
+      go false none none (some x) p q e t = (the-smallest (networkOf job) (order job) floor x e, refl, set-aside (networkOf job) group (lent-right (networkOf job) group p) goals (goals-within (order job) goals q))
+
+-- ---- the planner, and finding by name
+
+pub found-taken : {A : Type 0} (o : Option A) (r : Reason) → answers r ≡ true → accepted (found o r) ≡ true
+found-taken none r t = t
+found-taken (some x) r t = refl
+
+pub found-none : {A : Type 0} (o : Option A) (r : Reason) → Exactly (found o r ≡ refusal r 0) (o ≡ none)
+found-none none r = (λ e. refl, λ e. refl)
+found-none (some x) r = (λ e. absurd (no-refusal e), λ e. absurd (Option·none-ne-some x (sym e)))
+
+pub plan-is : (buffer : List ℕ) (job : Job (List ℕ)) → accepted (planIn job buffer) ≡ true → planIn job buffer ≡ found (fewest (fittingOf job) (horizon job)) NoPlan
+plan-is buffer job t = room-checks buffer (horizon job) .passes (found (fewest (fittingOf job) (horizon job)) NoPlan) t
+
+module _ (old new : List ℕ) (same : length new ≡ length old) where
+  -- a short buffer is not accepted
+  pub plan-kept : (job : Job (List ℕ)) → accepted (planIn job old) ≡ true → WordsIn (fittingOf job) old new (planIn job old) → PlanKept job old new (planIn job old)
+  plan-kept job t w = go (ltb (length old) (horizon job)) (fewest (fittingOf job) (horizon job)) refl refl t w
+    where
+      answer : Bool → Option ℕ → Answer ℕ
+      answer short k = behind (unless short ShortBuffer passed) (found k NoPlan)
+
+      go : (short : Bool) (k : Option ℕ) → ltb (length old) (horizon job) ≡ short → fewest (fittingOf job) (horizon job) ≡ k → accepted (answer short k) ≡ true
+          → WordsIn (fittingOf job) old new (answer short k) → PlanKept job old new (answer short k)
+      go true k p e t w = absurd (false≢true t)
+      go false none p e t w = (refl, fewest-none (fittingOf job) (horizon job) e, w)
+      go false (some k) p e t (plan, keep) =
+          let (l, made, least) = fewest-some (fittingOf job) (horizon job) k e in
+          let room : horizon job ≤ length old = ltb-false (length old) (horizon job) p in
+          (l, length-take-le k new (omega (arith, same)), plan, least, keep)

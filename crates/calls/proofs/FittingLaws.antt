@@ -1,0 +1,167 @@
+-- Layers and plan on a file: from what the reader, the tests and the planner told to what the rules answer. Assumes nothing.
+use mathlib.Core.Path.{_≡_, refl, ap, ap₂, sym, _∙_, subst}
+use mathlib.Core.List.{List, _++_}
+use mathlib.Core.Option.{Option, none, some}
+use Prim.Native.Nat.{ℕ, zero, suc, _^_, _≤_, _<_}
+use native.Mathlib.Decide.{decLt}
+use native.Mathlib.Omega.{arith}
+use lib.ListN.{length, getD, take, drop}
+use lib.Pow.{pow-mono}
+use lib.Seq.{ext-getD, getD-take, length-take-le}
+use Rattle.sets.specs.Ranges.{listTo}
+use Rattle.sets.proofs.Ranges.{list-length, list-at, list-past}
+use Rattle.reading.specs.declared.Reason.the-variants.{NoPlan}
+use Rattle.reading.specs.declared.Refusal.{Refusal}
+use Rattle.reading.specs.Got.{Got}
+use Rattle.reading.specs.Items.{spots}
+use Rattle.jobfile.specs.declared.Verdict.{Verdict}
+use Rattle.jobfile.specs.declared.Verdict.the-variants as Verdict
+use Rattle.jobfile.specs.declared.ReadFitting.{ReadFitting}
+use Rattle.jobfile.specs.Job.{Job}
+use Rattle.jobfile.specs.Answers as Answers
+use Rattle.jobfile.specs.Answers.{padded}
+use Rattle.jobfile.specs.Read.{read, readJob, fittings}
+use Rattle.network.proofs.ListedLaws.{padded-at}
+use Rattle.graph.specs.Rounds.{Fitting, fewest}
+use Rattle.graph.specs.Layers.{Layer, factsOver, factLayer, roundLayer}
+use Rattle.graph.specs.Back.{Sized}
+use Rattle.graph.proofs.WordLaws.{words-below}
+use Rattle.graph.proofs.LayerLaws.{facts-below}
+use Rattle.layering.specs.Drawn.{layer, roomy, fittingIn}
+use Rattle.layering.proofs.LayerCode.{facts-length, rounds-length}
+use Rattle.planner.specs.declared.Planned.{Planned}
+use Rattle.planner.specs.declared.Planned.the-variants as Planned
+use Rattle.planner.specs.Planner.{plannedBy, Words}
+use Rattle.lending.specs.Answers.{Answer, refusal, value, onJob, behind, found, Left, leaving}
+use Rattle.lending.specs.Tests.{roomTest, layerTest, verdictOf}
+use Rattle.lending.proofs.TestLaws.{stopped, through}
+use Rattle.calls.specs.Layers.{factLayerIn, factLayerOf, roundLayerIn, roundLayerOf}
+use Rattle.calls.specs.Plan.{planIn, planOf, WordsIn, Buffer}
+use Rattle.calls.proofs.CallLaws.{fitting-down, job-down, on-job, FittingRead}
+
+-- ---- the layers
+
+-- a list in an array is what stands in front of it
+padded-front : (n size : ℕ) (l : List ℕ) → length l ≡ n → n ≤ size → take n (padded size l) ≡ l
+padded-front n size l e room =
+    let len : length (padded size l) ≡ size = list-length size (λ i. getD l i 0) in
+    ext-getD 0 (take n (padded size l)) l (length-take-le n (padded size l) (omega (arith, len)) ∙ sym e) (λ i h.
+    let small : i < n = omega (arith, length-take-le n (padded size l) (omega (arith, len))) in
+    getD-take n (padded size l) i 0 small ∙ list-at size (λ j. getD l j 0) 0 i (omega arith))
+
+module _ (F : Fitting) where
+  -- the words of facts are sets of facts
+  fact-words-below : (k i : ℕ) → getD (factLayer 32 F k .words) i 0 < 2 ^ 32
+  unfolding factLayer factsOver
+  fact-words-below zero i = go (decLt i 32)
+    where
+      go : Dec (i < 32) → getD (listTo {A = ℕ} 32 (λ p. 0)) i 0 < 2 ^ 32
+      go (yes l) = omega (arith, list-at {A = ℕ} 32 (λ p. 0) 0 i l)
+      go (no l) = omega (arith, list-past {A = ℕ} 32 (λ p. 0) 0 i (omega arith))
+  fact-words-below (suc k) i = words-below 32 _ _ i
+
+-- what a fact layer in arrays has room for
+module _ (F : Fitting) (k : ℕ) {m : ℕ} {ws : List ℕ} (e : layer m ws ≡ roomy 64 (factLayer 32 F k)) where
+  pub facts-fit : Sized 32 F → m < 2 ^ 32
+  facts-fit ok = omega (arith, ap (λ L. L .members) e, facts-below 32 F ok k, pow-mono (ok .room))
+
+  pub words-fit : (i : ℕ) → i < 32 → getD ws i 0 < 2 ^ 32
+  words-fit i l =
+      omega (arith, ap (λ L. getD (L .words) i 0) e, padded-at 64 (factLayer 32 F k .words) (omega (arith, facts-length 32 F k)) i, fact-words-below F k i)
+
+-- what the calls leave of a layer
+abbrev left : List ℕ → Answer Layer → Left ℕ
+left old a = leaving (λ layer. layer .words) (λ layer. layer .members) old a
+
+module _ (f old : List ℕ) (k : ℕ) where
+  pub facts-down : {v : Verdict} {x : Refusal} → v ≡ Answers.fittingOf (read spots fittings f) .verdict → v ≡ Verdict.Refused x → record { answer = refusal (x .reason) (x .place); buffer = old } ≡ factLayerOf f k old
+  facts-down p q = ap (left old) (job-down (λ job. factLayerIn job k old) (fitting-down f p q))
+
+  pub vertices-down : {v : Verdict} {x : Refusal} → v ≡ Answers.fittingOf (read spots fittings f) .verdict → v ≡ Verdict.Refused x → record { answer = refusal (x .reason) (x .place); buffer = old } ≡ roundLayerOf f k old
+  vertices-down p q = ap (left old) (job-down (λ job. roundLayerIn job k old) (fitting-down f p q))
+
+  module _ (r : ReadFitting) (R : FittingRead f r) where
+    abbrev factsIn : Fitting → Answer Layer
+    factsIn F = behind (layerTest k 0 (F .horizon) (length old) 32) (value (factLayer 32 F k))
+
+    facts-on : factsIn (fittingIn r) ≡ onJob (readJob fittings f) (λ job. factLayerIn job k old)
+    facts-on = ap factsIn (R .fitting) ∙ on-job (λ job. factLayerIn job k old) (R .is)
+
+    pub facts-stopped : {v : Verdict} {x : Refusal} → v ≡ verdictOf (layerTest k 0 (r .horizon) (length old) 32) → v ≡ Verdict.Refused x → record { answer = refusal (x .reason) (x .place); buffer = old } ≡ factLayerOf f k old
+    facts-stopped e q = ap (left old) (stopped (layerTest k 0 (r .horizon) (length old) 32) (value (factLayer 32 (fittingIn r) k)) e q ∙ facts-on)
+
+    pub facts-made : {v : Verdict} {m : ℕ} {ws new : List ℕ} → v ≡ verdictOf (layerTest k 0 (r .horizon) (length old) 32) → v ≡ Verdict.Accepted
+        → layer m ws ≡ roomy 64 (factLayer 32 (fittingIn r) k) → new ≡ take 32 ws ++ drop 32 old → record { answer = value m; buffer = new } ≡ factLayerOf f k old
+    facts-made {m = m} {ws = ws} {new = new} e q made wrote =
+        let L = factLayer 32 (fittingIn r) k in
+        let words : take 32 ws ≡ L .words = ap (λ M. take 32 (M .words)) made ∙ padded-front 32 64 (L .words) (facts-length 32 (fittingIn r) k) (omega arith) in
+        let same : new ≡ L .words ++ drop (length (L .words)) old = wrote ∙ ap₂ (λ (x : List ℕ) (n : ℕ). x ++ drop n old) words (sym (facts-length 32 (fittingIn r) k)) in
+        ap₂ (λ (x : ℕ) (b : List ℕ). record { answer = value x; buffer = b }) (ap (λ M. M .members) made) same
+        ∙ ap (left old) (through (layerTest k 0 (r .horizon) (length old) 32) (value L) e q ∙ facts-on)
+
+    abbrev roundsIn : Fitting → Answer Layer
+    roundsIn F = behind (layerTest k 1 (F .horizon) (length old) 64) (value (roundLayer 32 F k))
+
+    rounds-on : roundsIn (fittingIn r) ≡ onJob (readJob fittings f) (λ job. roundLayerIn job k old)
+    rounds-on = ap roundsIn (R .fitting) ∙ on-job (λ job. roundLayerIn job k old) (R .is)
+
+    pub vertices-stopped : {v : Verdict} {x : Refusal} → v ≡ verdictOf (layerTest k 1 (r .horizon) (length old) 64) → v ≡ Verdict.Refused x → record { answer = refusal (x .reason) (x .place); buffer = old } ≡ roundLayerOf f k old
+    vertices-stopped e q = ap (left old) (stopped (layerTest k 1 (r .horizon) (length old) 64) (value (roundLayer 32 (fittingIn r) k)) e q ∙ rounds-on)
+
+    pub vertices-made : {v : Verdict} {m : ℕ} {ws new : List ℕ} → v ≡ verdictOf (layerTest k 1 (r .horizon) (length old) 64) → v ≡ Verdict.Accepted
+        → layer m ws ≡ roundLayer 32 (fittingIn r) k → new ≡ ws ++ drop 64 old → record { answer = value m; buffer = new } ≡ roundLayerOf f k old
+    vertices-made {m = m} {ws = ws} {new = new} e q made wrote =
+        let L = roundLayer 32 (fittingIn r) k in
+        let same : new ≡ L .words ++ drop (length (L .words)) old =
+        wrote ∙ ap₂ (λ (x : List ℕ) (n : ℕ). x ++ drop n old) (ap (λ M. M .words) made) (sym (rounds-length 32 (fittingIn r) k)) in
+        ap₂ (λ (x : ℕ) (b : List ℕ). record { answer = value x; buffer = b }) (ap (λ M. M .members) made) same
+        ∙ ap (left old) (through (layerTest k 1 (r .horizon) (length old) 64) (value L) e q ∙ rounds-on)
+
+-- ---- the plan
+
+module _ (f old new : List ℕ) where
+  -- what the call promises of an answer, and the same by what the file was read as
+  abbrev pub Promised : Answer ℕ → Type 0
+  Promised a = (a ≡ planOf f old) × Buffer (readJob fittings f) old new (planOf f old)
+
+  abbrev by : Answer ℕ → Got (Job (List ℕ)) → Type 0
+  by a g = (a ≡ onJob g (λ job. planIn job old)) × Buffer g old new (onJob g (λ job. planIn job old))
+
+  pub plan-down : {v : Verdict} {x : Refusal} → v ≡ Answers.fittingOf (read spots fittings f) .verdict → v ≡ Verdict.Refused x → new ≡ old → Promised (refusal (x .reason) (x .place))
+  plan-down {x = x} p q same = subst (by (refusal (x .reason) (x .place))) (sym (fitting-down f p q)) (refl, same)
+
+  module _ (r : ReadFitting) (R : FittingRead f r) {v : Verdict} (e : v ≡ verdictOf (roomTest (length old) (r .horizon))) where
+    -- over a fitting
+    abbrev planOver : Fitting → Answer ℕ
+    planOver F = behind (roomTest (length old) (F .horizon)) (found (fewest F (F .horizon)) NoPlan)
+
+    abbrev Over : Answer ℕ → Fitting → Type 0
+    Over a F = (a ≡ planOver F) × WordsIn F old new (planOver F)
+
+    on-file : {a : Answer ℕ} → Over a (fittingIn r) → Promised a
+    on-file {a} h = subst (by a) (sym (R .is)) (subst (Over a) (R .fitting) h)
+
+    -- an answer that the words go with
+    with-words : {a : Answer ℕ} → a ≡ planOver (fittingIn r) → WordsIn (fittingIn r) old new a → Over a (fittingIn r)
+    with-words k w = (k, subst (WordsIn (fittingIn r) old new) k w)
+
+    pub plan-short : {x : Refusal} → v ≡ Verdict.Refused x → new ≡ old → Promised (refusal (x .reason) (x .place))
+    plan-short q same = on-file (with-words (stopped (roomTest (length old) (r .horizon)) (found (fewest (fittingIn r) (r .horizon)) NoPlan) e q) same)
+
+    module _ (ok : v ≡ Verdict.Accepted) {m : Planned} (p : m ≡ plannedBy (fewest (fittingIn r) (r .horizon))) (words : Words (fittingIn r) old new m) where
+      tested : {a : Answer ℕ} → a ≡ found (fewest (fittingIn r) (r .horizon)) NoPlan → WordsIn (fittingIn r) old new a → Promised a
+      tested k w = on-file (with-words (k ∙ through (roomTest (length old) (r .horizon)) (found (fewest (fittingIn r) (r .horizon)) NoPlan) e ok) w)
+
+      pub plan-made : {k : ℕ} → m ≡ Planned.Rounds k → Promised (value k)
+      plan-made {k} q = tested (go (fewest (fittingIn r) (r .horizon)) (sym p ∙ q)) (subst (Words (fittingIn r) old new) q words)
+        where
+          go : (o : Option ℕ) → plannedBy o ≡ Planned.Rounds k → value k ≡ found o NoPlan
+          go (some j) h = let s : j ≡ k = cc in sym (ap (λ (i : ℕ). value i) s)
+          go none h = let z : _≡_ {A = ℕ} 0 1 = cc in absurd (omega arith)
+
+      pub plan-none : m ≡ Planned.Nothing → Promised (refusal NoPlan 0)
+      plan-none q = tested (go (fewest (fittingIn r) (r .horizon)) (sym p ∙ q)) (subst (Words (fittingIn r) old new) q words)
+        where
+          go : (o : Option ℕ) → plannedBy o ≡ Planned.Nothing → refusal NoPlan 0 ≡ found o NoPlan
+          go (some j) h = let z : _≡_ {A = ℕ} 0 1 = cc in absurd (omega arith)
+          go none h = refl

@@ -1,0 +1,123 @@
+-- Names and comparison: from what files were read as to what the rules answer. Assumes nothing.
+use mathlib.Core.Path.{_≡_, refl, ap, ap₂, sym, _∙_, subst}
+use mathlib.Core.Bool.{Bool, true, false, _&&_}
+use mathlib.Core.List.{List, [], map}
+use mathlib.Core.Option.{Option}
+use Prim.Native.Nat.{ℕ, _≤_}
+use native.Mathlib.Omega.{arith}
+use lib.Dec.{eqb}
+use lib.ListN.{length, getD, take, drop}
+use borrow.Author.Tests.{eqb-true}
+use Rattle.reading.specs.declared.Reason.the-variants.{NameNotFound}
+use Rattle.reading.specs.declared.Refusal.{Refusal}
+use Rattle.reading.specs.declared.Spot.{Spot}
+use Rattle.reading.specs.Got.{Got, got}
+use Rattle.reading.specs.Items.{spots}
+use Rattle.jobfile.specs.declared.Verdict.{Verdict}
+use Rattle.jobfile.specs.declared.Verdict.the-variants as Verdict
+use Rattle.jobfile.specs.declared.ReadChoice.{ReadChoice}
+use Rattle.jobfile.specs.declared.ReadFitting.{ReadFitting}
+use Rattle.jobfile.specs.Job.{Job, column, size, order, wishes, clashes}
+use Rattle.jobfile.specs.Answers.{choiceOf, fittingOf, spotOf, spotIn, Few, ChoiceBounds, FittingBounds}
+use Rattle.jobfile.specs.Read.{read, readJob, choices, fittings, either}
+use Rattle.jobfile.proofs.NamingLaws.{mapGot, bytesAt, entryBy, jobBy, names-same, read-same}
+use Rattle.jobfile.proofs.ReadLaws.{either-choice, either-fitting, choice-spot, fitting-spot}
+use Rattle.expansion.proofs.ReadLaws.{column-by, column-length}
+use Rattle.matching.specs.Same.{sameList, alike}
+use Rattle.matching.specs.Names.{lowestNamed}
+use Rattle.matching.proofs.SameLaws.{padded-same, search-cong}
+use Rattle.lending.specs.Answers.{Answer, refusal, value, onJob, found}
+use Rattle.calls.specs.Find.{findIn, findOf}
+use Rattle.calls.specs.Compare.{compareOf}
+use Rattle.calls.proofs.CallLaws.{Taken, choice-taken, fitting-taken, choice-down, fitting-down, job-down}
+
+-- ---- finding: a file is read as its first byte says
+
+of-fitting : (f name : List ℕ) → eqb (getD f 0 0) 70 ≡ true → onJob (readJob fittings f) (λ job. findIn job name) ≡ findOf f name
+of-fitting f name e = sym (ap (λ g. onJob g (λ job. findIn job name)) (read-same f either ∙ ap (mapGot (jobBy f)) (either-fitting spots f e) ∙ sym (read-same f fittings)))
+
+of-choice : (f name : List ℕ) → eqb (getD f 0 0) 70 ≡ false → onJob (readJob choices f) (λ job. findIn job name) ≡ findOf f name
+of-choice f name e = sym (ap (λ g. onJob g (λ job. findIn job name)) (read-same f either ∙ ap (mapGot (jobBy f)) (either-choice spots f e) ∙ sym (read-same f choices)))
+
+module _ (f name : List ℕ) {b : Bool} (kind : b ≡ eqb (getD f 0 0) 70) where
+  pub find-down-fitting : {v : Verdict} {x : Refusal} → b ≡ true → v ≡ fittingOf (read spots fittings f) .verdict → v ≡ Verdict.Refused x → refusal (x .reason) (x .place) ≡ findOf f name
+  find-down-fitting t p q = job-down (λ job. findIn job name) (fitting-down f p q) ∙ of-fitting f name (sym kind ∙ t)
+
+  pub find-down-choice : {v : Verdict} {x : Refusal} → b ≡ false → v ≡ choiceOf (read spots choices f) .verdict → v ≡ Verdict.Refused x → refusal (x .reason) (x .place) ≡ findOf f name
+  find-down-choice t p q = job-down (λ job. findIn job name) (choice-down f p q) ∙ of-choice f name (sym kind ∙ t)
+
+-- names by their spots in the file are those of the job
+search-is : (f name : List ℕ) (takes : ℕ → Bool) (t : Taken (read spots takes f)) (n : ℕ) (starts lens : List ℕ) → n ≡ size (t .job) → ((i : ℕ) → spotOf starts lens i ≡ spotIn (read spots takes f) i)
+    → found (lowestNamed name n (λ i. take (getD lens i 0) (drop (getD starts i 0) f))) NameNotFound ≡ onJob (readJob takes f) (λ job. findIn job name)
+search-is f name takes t n starts lens en h =
+    ap (λ (o : Option ℕ). found o NameNotFound) (
+    ap (λ (k : ℕ). lowestNamed name k (λ i. take (getD lens i 0) (drop (getD starts i 0) f))) en
+    ∙ search-cong name (size (t .job)) _ (λ i. getD (map (λ e. e .name) (map (entryBy f) (t .job .entries))) i [])
+    (λ i. ap (bytesAt f) (h i ∙ ap (λ x. spotIn x i) (t .is)) ∙ sym (names-same f (t .job .entries) i))
+    )
+    ∙ sym (ap (λ g. onJob g (λ job. findIn job name)) (read-same f takes ∙ ap (mapGot (jobBy f)) (t .is)))
+
+module _ (f name : List ℕ) {b : Bool} (kind : b ≡ eqb (getD f 0 0) 70) {a : Answer ℕ} {o : Option ℕ} (told : a ≡ found o NameNotFound) where
+  pub find-fitting : (r : ReadFitting) → b ≡ true → r ≡ fittingOf (read spots fittings f) → FittingBounds f r → r .verdict ≡ Verdict.Accepted
+      → o ≡ lowestNamed name (r .steps) (λ i. take (getD (r .lens) i 0) (drop (getD (r .starts) i 0) f)) → a ≡ findOf f name
+  find-fitting r c e bounds accepted p =
+      let g = read spots fittings f in
+      let t = fitting-taken g (ap (λ x. x .verdict) e) accepted in
+      told ∙ ap (λ (o : Option ℕ). found o NameNotFound) p
+      ∙ search-is f name fittings t (r .steps) (r .starts) (r .lens) (ap (λ x. x .steps) e ∙ ap (λ x. fittingOf x .steps) (t .is)) (λ i. ap (λ x. spotOf (x .starts) (x .lens) i) e ∙ fitting-spot g (bounds .4) i)
+      ∙ of-fitting f name (sym kind ∙ c)
+
+  pub find-choice : (r : ReadChoice) → b ≡ false → r ≡ choiceOf (read spots choices f) → ChoiceBounds f r → r .verdict ≡ Verdict.Accepted
+      → o ≡ lowestNamed name (r .articles) (λ i. take (getD (r .lens) i 0) (drop (getD (r .starts) i 0) f)) → a ≡ findOf f name
+  find-choice r c e bounds accepted p =
+      let g = read spots choices f in
+      let t = choice-taken g (ap (λ x. x .verdict) e) accepted in
+      told ∙ ap (λ (o : Option ℕ). found o NameNotFound) p
+      ∙ search-is f name choices t (r .articles) (r .starts) (r .lens) (ap (λ x. x .articles) e ∙ ap (λ x. choiceOf x .articles) (t .is)) (λ i. ap (λ x. spotOf (x .starts) (x .lens) i) e ∙ choice-spot g (bounds .3) i)
+      ∙ of-choice f name (sym kind ∙ c)
+
+-- ---- comparing
+
+alike-by : (f f′ : List ℕ) (a b : Job Spot) → alike (jobBy f a) (jobBy f′ b) ≡ alike a b
+alike-by f f′ a b = rw (column-by f 0 (a .entries), column-by f 1 (a .entries), column-by f′ 0 (b .entries), column-by f′ 1 (b .entries))
+
+-- the test of the code, over arrays
+abbrev byArrays : ReadChoice → ReadChoice → Bool
+byArrays a b = eqb (a .articles) (b .articles) && (eqb (a .«wish_count») (b .«wish_count») && (eqb (a .order) (b .order) && (sameList (a .wishes) (b .wishes) && sameList (a .clashes) (b .clashes))))
+
+alike-is : (a b : Job Spot) (m n : ℕ) → Few 64 (got a m) → Few 64 (got b n) → byArrays (choiceOf (got a m)) (choiceOf (got b n)) ≡ alike a b
+alike-is a b m n fa fb = go (eqb (size a) (size b)) refl
+  where
+    go : (t : Bool) → eqb (size a) (size b) ≡ t → byArrays (choiceOf (got a m)) (choiceOf (got b n)) ≡ alike a b
+    go true e =
+        let same = eqb-true (size a) (size b) e in
+        let lengths : (k : ℕ) → length (column k (a .entries)) ≡ length (column k (b .entries)) = λ k. column-length k (a .entries) ∙ fa .0 ∙ same ∙ sym (fb .0) ∙ sym (column-length k (b .entries)) in
+        let room : (k : ℕ) → length (column k (a .entries)) ≤ 64 = λ k. omega (arith, column-length k (a .entries), fa .0, fa .1) in
+        rw (padded-same 64 (wishes a) (wishes b) (lengths 0) (room 0), padded-same 64 (clashes a) (clashes b) (lengths 1) (room 1))
+    go false e = rw e
+
+module _ (f s : List ℕ) where
+  abbrev compared : Got (Job (List ℕ)) → Got (Job (List ℕ)) → Answer Bool
+  compared g h = onJob g (λ a. onJob h (λ b. value (alike a b)))
+
+  pub compare-first : {v : Verdict} {x : Refusal} → v ≡ choiceOf (read spots choices f) .verdict → v ≡ Verdict.Refused x → refusal (x .reason) (x .place) ≡ compareOf f s
+  compare-first p q = job-down (λ a. onJob (readJob choices s) (λ b. value (alike a b))) (choice-down f p q)
+
+  module _ (a : ReadChoice) (ea : a ≡ choiceOf (read spots choices f)) (ba : ChoiceBounds f a) (va : a .verdict ≡ Verdict.Accepted) where
+    first : Taken (read spots choices f)
+    first = choice-taken (read spots choices f) (ap (λ x. x .verdict) ea) va
+
+    is-first : readJob choices f ≡ got (jobBy f (first .job)) (first .end)
+    is-first = read-same f choices ∙ ap (mapGot (jobBy f)) (first .is)
+
+    pub compare-second : {v : Verdict} {x : Refusal} → v ≡ choiceOf (read spots choices s) .verdict → v ≡ Verdict.Refused x → refusal (x .reason) (x .place) ≡ compareOf f s
+    compare-second p q = sym (ap₂ compared is-first (choice-down s p q))
+
+    pub compare-both : (b : ReadChoice) {r t : Bool} → b ≡ choiceOf (read spots choices s) → ChoiceBounds s b → b .verdict ≡ Verdict.Accepted → r ≡ byArrays a b → r ≡ t → value t ≡ compareOf f s
+    compare-both b eb bb vb e k =
+        let second = choice-taken (read spots choices s) (ap (λ x. x .verdict) eb) vb in
+        ap (λ (x : Bool). value x) (
+        sym k ∙ e ∙ ap₂ byArrays (ea ∙ ap choiceOf (first .is)) (eb ∙ ap choiceOf (second .is))
+        ∙ alike-is (first .job) (second .job) (first .end) (second .end) (subst (Few 64) (first .is) (ba .3)) (subst (Few 64) (second .is) (bb .3)) ∙ sym (alike-by f s (first .job) (second .job))
+        )
+        ∙ sym (ap₂ compared is-first (read-same s choices ∙ ap (mapGot (jobBy s)) (second .is)))

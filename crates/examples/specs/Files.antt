@@ -1,0 +1,69 @@
+-- The files of the examples, byte by byte, by the letters of docs/RULES.md. Multi-byte fields have their lowest byte first; no record has a name.
+use mathlib.Core.List.{List, [], _∷_, _++_}
+use Prim.Native.Nat.{ℕ}
+use lib.ListN.{take, set}
+
+-- A: articles 0 {wish 0}; 1 {1}, which clashes with 0; 2 {0, 1}; the order is {0, 1}. By lines: kind, articles, wishes; order; then the records,
+-- each its bit map, its wishes and, where they are marked, its clashes: 46 bytes
+abbrev pub fileA : List ℕ
+fileA =
+    67 ∷ 3 ∷ 2
+    ∷ 3 ∷ 0 ∷ 0 ∷ 0 ∷ 0 ∷ 0 ∷ 0 ∷ 0
+    ∷ 1 ∷ 1 ∷ 0 ∷ 0 ∷ 0 ∷ 0 ∷ 0 ∷ 0 ∷ 0
+    ∷ 3 ∷ 2 ∷ 0 ∷ 0 ∷ 0 ∷ 0 ∷ 0 ∷ 0 ∷ 0 ∷ 1 ∷ 0 ∷ 0 ∷ 0 ∷ 0 ∷ 0 ∷ 0 ∷ 0
+    ∷ 1 ∷ 3 ∷ 0 ∷ 0 ∷ 0 ∷ 0 ∷ 0 ∷ 0 ∷ 0
+    ∷ []
+
+-- A without its last byte, and with one more
+abbrev pub fileShort : List ℕ
+fileShort = take 45 fileA
+
+abbrev pub fileLong : List ℕ
+fileLong = fileA ++ (0 ∷ [])
+
+-- B: articles 0 {wish 0}; 1 {0, 1}, which clashes with 0; 2 {2}; the order is {0, 1, 2}. The lines are those of A
+abbrev pub fileB : List ℕ
+fileB =
+    67 ∷ 3 ∷ 3
+    ∷ 7 ∷ 0 ∷ 0 ∷ 0 ∷ 0 ∷ 0 ∷ 0 ∷ 0
+    ∷ 1 ∷ 1 ∷ 0 ∷ 0 ∷ 0 ∷ 0 ∷ 0 ∷ 0 ∷ 0
+    ∷ 3 ∷ 3 ∷ 0 ∷ 0 ∷ 0 ∷ 0 ∷ 0 ∷ 0 ∷ 0 ∷ 1 ∷ 0 ∷ 0 ∷ 0 ∷ 0 ∷ 0 ∷ 0 ∷ 0
+    ∷ 1 ∷ 4 ∷ 0 ∷ 0 ∷ 0 ∷ 0 ∷ 0 ∷ 0 ∷ 0
+    ∷ []
+
+-- no article, no wish, and nothing ordered: kind, articles, wishes; order
+abbrev pub fileEmpty : List ℕ
+fileEmpty =
+    67 ∷ 0 ∷ 0
+    ∷ 0 ∷ 0 ∷ 0 ∷ 0 ∷ 0 ∷ 0 ∷ 0 ∷ 0
+    ∷ []
+
+-- the same, with 65 articles counted in byte 1
+abbrev pub fileMany : List ℕ
+fileMany = set fileEmpty 1 65
+
+-- F: step 0 needs 0, gives 1 and takes 0; steps 1 and 2 need 1 and give 2 and 3; the start is {0}, the goal {2, 3}. By lines: kind, steps, facts,
+-- horizon; start; goal; then the records, each its bit map, and as it marks them needs, gives and takes: 43 bytes
+abbrev pub fileF : List ℕ
+fileF =
+    70 ∷ 3 ∷ 4 ∷ 3
+    ∷ 1 ∷ 0 ∷ 0 ∷ 0
+    ∷ 12 ∷ 0 ∷ 0 ∷ 0
+    ∷ 7 ∷ 1 ∷ 0 ∷ 0 ∷ 0 ∷ 2 ∷ 0 ∷ 0 ∷ 0 ∷ 1 ∷ 0 ∷ 0 ∷ 0
+    ∷ 3 ∷ 2 ∷ 0 ∷ 0 ∷ 0 ∷ 4 ∷ 0 ∷ 0 ∷ 0
+    ∷ 3 ∷ 2 ∷ 0 ∷ 0 ∷ 0 ∷ 8 ∷ 0 ∷ 0 ∷ 0
+    ∷ []
+
+-- the same, with the horizon in byte 3 changed to 1
+abbrev pub fileNear : List ℕ
+fileNear = set fileF 3 1
+
+-- G: step 0 gives 0; step 1 gives 1 and takes 0; the start is empty, the goal {0, 1}, the horizon 2. The lines are those of F
+abbrev pub fileG : List ℕ
+fileG =
+    70 ∷ 2 ∷ 2 ∷ 2
+    ∷ 0 ∷ 0 ∷ 0 ∷ 0
+    ∷ 3 ∷ 0 ∷ 0 ∷ 0
+    ∷ 2 ∷ 1 ∷ 0 ∷ 0 ∷ 0
+    ∷ 6 ∷ 2 ∷ 0 ∷ 0 ∷ 0 ∷ 1 ∷ 0 ∷ 0 ∷ 0
+    ∷ []

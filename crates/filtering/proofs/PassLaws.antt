@@ -1,0 +1,142 @@
+-- A pass as loops compute it: the contributions group by group, their sum, and the set of those that are supported. Assumes nothing.
+use mathlib.Core.Path.{_≡_, refl, sym, ap, ap₂, _∙_}
+use mathlib.Core.Logic.{_⊎_, inl, inr, _≢_}
+use mathlib.Core.Bool.{Bool, _&&_}
+use mathlib.Core.List.{List}
+use Prim.Native.Nat.{ℕ, _+_, _-_, _^_, _≤_, _<_, max}
+use native.Mathlib.Omega.{arith}
+use native.Mathlib.Numerals.{add-one}
+use native.Mathlib.Nat.{le-trans}
+use native.Mathlib.Decide.{decLe}
+use lib.Bits.{bitAnd, bitOr, and-comm}
+use lib.Dec.{leb, eqb}
+use lib.ListN.{length, getD, drop, drop-of-length-le, set, replicate, length-set, length-replicate, getD-replicate}
+use lib.Seq.{drop-cons, getD-set-same, getD-set-other, ext-getD}
+use borrow.Author.Tests.{le-leb, lt-leb, eq-eqb, ne-eqb}
+use Rattle.sets.specs.Ranges.{given, sumTo, maxTo, listTo}
+use Rattle.sets.specs.Sets.{member, without, count, setOf}
+use Rattle.sets.proofs.Ranges.{same-cases, given-both, given-zero, given-le, sum-cong, sum-past, sum-but, max-most, max-turn, list-length, list-at}
+use Rattle.sets.proofs.Bits.{bit-and}
+use Rattle.sets.proofs.Made.{set-turn}
+use Rattle.sets.proofs.Counts.{count-le, count-part, count-without}
+use Rattle.network.specs.Network.{Network}
+use Rattle.network.specs.Filter.{share, contribution, others, supported, pass, passes}
+
+-- what the goal has beyond the wishes of v is its count less what v carries of it
+pub lacking-left : (p s want own rest : ℕ) → want ≡ count p → own ≡ count (bitAnd s p) → leb want (rest + own) ≡ leb (count (without p s)) rest
+lacking-left p s want own rest ew eo = go (decLe (count (without p s)) rest)
+  where
+    whole : count (without p s) + own ≡ want
+    whole = ap (λ (x : ℕ). count (without p s) + x) (eo ∙ ap count (and-comm s p)) ∙ count-without p s ∙ sym ew
+
+    go : Dec (count (without p s) ≤ rest) → leb want (rest + own) ≡ leb (count (without p s)) rest
+    go (yes h) = le-leb want (rest + own) (omega (arith, whole)) ∙ sym (le-leb (count (without p s)) rest h)
+    go (no h) = lt-leb want (rest + own) (omega (arith, whole)) ∙ sym (lt-leb (count (without p s)) rest (omega arith))
+
+module _ (N : Network) (group : ℕ → ℕ) (live p : ℕ) where
+  -- the words hold, for each group, the most that one of the articles below u carries
+  abbrev pub Best : List ℕ → ℕ → Type 0
+  Best best u = (length best ≡ 64) × ((j : ℕ) → j < 64 → getD best j 0 ≡ maxTo u (share N group live p j))
+
+  pub best-start : Best (replicate {A = ℕ} 64 0) 0
+  unfolding maxTo
+  best-start = (length-replicate {A = ℕ} 64 0, λ j l. getD-replicate 64 j 0 0 l)
+
+  abbrev pub carriedBy : ℕ → ℕ
+  carriedBy u = given (member live u) (count (bitAnd (N .wishes u) p))
+
+  share-own : (u : ℕ) → share N group live p (group u) u ≡ carriedBy u
+  unfolding share
+  share-own u =
+      given-both (member live u) (eqb (group u) (group u)) (count (bitAnd (N .wishes u) p))
+      ∙ ap (λ (b : Bool). given (member live u) (given b (count (bitAnd (N .wishes u) p)))) (eq-eqb (group u) (group u) refl)
+
+  share-other : (u j : ℕ) → j ≢ group u → share N group live p j u ≡ 0
+  unfolding share
+  share-other u j d =
+      given-both (member live u) (eqb (group u) j) (count (bitAnd (N .wishes u) p))
+      ∙ ap (λ (b : Bool). given (member live u) (given b (count (bitAnd (N .wishes u) p)))) (ne-eqb (group u) j (λ e. d (sym e)))
+      ∙ given-zero (member live u)
+
+  pub best-turn : (best : List ℕ) (u x m : ℕ) → Best best u → group u < 64 → x ≡ carriedBy u → m ≡ max (getD best (group u) 0) x → Best (set best (group u) m) (u + 1)
+  best-turn best u x m (size, held) h ex em = (length-set best (group u) m ∙ size, λ j l. go j l (same-cases j (group u)))
+    where
+      go : (j : ℕ) → j < 64 → (j ≡ group u) ⊎ (j ≢ group u) → getD (set best (group u) m) j 0 ≡ maxTo (u + 1) (share N group live p j)
+      go j l (inl e) =
+          ap (λ (i : ℕ). getD (set best (group u) m) i 0) e
+          ∙ getD-set-same best (group u) m 0 (omega (arith, size))
+          ∙ em ∙ ap₂ max (held (group u) h) (ex ∙ sym (share-own u))
+          ∙ sym (max-turn u (share N group live p (group u)))
+          ∙ ap (λ (i : ℕ). maxTo (u + 1) (share N group live p i)) (sym e)
+      go j l (inr d) =
+          getD-set-other best (group u) j m 0 d
+          ∙ omega (arith, held j l, max-turn u (share N group live p j), share-other u j d)
+
+  pub best-end : (best : List ℕ) (u : ℕ) → Best best u → u ≡ N .articles → best ≡ listTo 64 (λ j. contribution N group live p j)
+  unfolding contribution
+  best-end best u (size, held) e =
+      ext-getD 0 best (listTo 64 (λ j. contribution N group live p j)) (size ∙ sym (list-length 64 (λ j. contribution N group live p j)))
+      (λ j l. let k : j < 64 = omega (arith, size) in
+      held j k ∙ ap (λ (n : ℕ). maxTo n (share N group live p j)) e ∙ sym (list-at 64 (λ j. contribution N group live p j) 0 j k))
+
+  -- a goal of one word has at most 64 wishes, and no group contributes more
+  pub best-small : (best : List ℕ) → best ≡ listTo 64 (λ j. contribution N group live p j) → p < 2 ^ 64 → (j : ℕ) → j < 64 → getD best j 0 ≤ 64
+  unfolding contribution share
+  best-small best e h j l =
+      let at : getD best j 0 ≡ contribution N group live p j = ap (λ (b : List ℕ). getD b j 0) e ∙ list-at 64 (λ j. contribution N group live p j) 0 j l in
+      omega (
+        arith,
+        at,
+        max-most (N .articles) (share N group live p j) 64 (λ u k.
+            le-trans (given-le (member live u && eqb (group u) j) (count (bitAnd (N .wishes u) p)))
+            (le-trans (count-part (bitAnd (N .wishes u) p) p (λ i. omega (arith, bit-and (N .wishes u) p i))) (count-le 64 p h))),
+      )
+
+  -- no article is of a group past the last
+  contribution-past : ((u : ℕ) → u < N .articles → group u < N .articles) → (j : ℕ) → N .articles ≤ j → contribution N group live p j ≡ 0
+  unfolding contribution
+  contribution-past inside j h =
+      let z : contribution N group live p j ≤ 0 = max-most (N .articles) (share N group live p j) 0
+      (λ u l. omega (arith, share-other u j (λ e. let f : ⊥ = omega (arith, inside u l) in f))) in
+      omega (arith, z)
+
+  -- the sum of the 64 words, less that of k, is what the other groups contribute
+  pub others-left : (best : List ℕ) (all k : ℕ) → ((u : ℕ) → u < N .articles → group u < N .articles) → N .articles ≤ 64
+      → best ≡ listTo 64 (λ j. contribution N group live p j) → all ≡ sumTo 64 (λ j. getD best j 0) → k < N .articles
+      → all ≡ getD best k 0 + others N group live p k
+  unfolding others
+  others-left best all k inside few e ea l =
+      ea
+      ∙ sum-cong 64 (λ j. getD best j 0) (contribution N group live p) at
+      ∙ sum-past (N .articles) 64 (contribution N group live p) few (contribution-past inside)
+      ∙ sum-but (N .articles) k (contribution N group live p) l
+      ∙ ap (λ (x : ℕ). x + others N group live p k) (sym (at k (omega arith)))
+    where
+      at : (j : ℕ) → j < 64 → getD best j 0 ≡ contribution N group live p j
+      at j h = ap (λ (b : List ℕ). getD b j 0) e ∙ list-at 64 (λ j. contribution N group live p j) 0 j h
+
+  -- whether v is in the pass
+  abbrev pub keeps : ℕ → Bool
+  keeps v = member live v && supported N group live p v
+
+  pub pass-turn : (s v rest r : ℕ) (passed : Bool) → s ≡ setOf v keeps → rest ≡ others N group live p (group v)
+      → passed ≡ (member live v && leb (count (without p (N .wishes v))) rest) → r ≡ bitOr s (given passed (2 ^ v)) → r ≡ setOf (v + 1) keeps
+  unfolding supported
+  pass-turn s v rest r passed es er ep e =
+      e ∙ ap₂ (λ (x : ℕ) (b : Bool). bitOr x (given b (2 ^ v))) es (ep ∙ ap (λ (x : ℕ). member live v && leb (count (without p (N .wishes v))) x) er)
+      ∙ sym (set-turn v keeps)
+
+  pub pass-end : (s v : ℕ) → s ≡ setOf v keeps → v ≡ N .articles → s ≡ pass N group live p
+  unfolding pass
+  pass-end s v e h = e ∙ ap (λ (n : ℕ). setOf n keeps) h
+
+-- ---- passes in turn: from goal i on
+
+module _ (N : Network) (group : ℕ → ℕ) (goals : List ℕ) where
+  pub passes-turn : (live i : ℕ) → i < length goals → passes N group (pass N group live (getD goals i 0)) (drop (i + 1) goals) ≡ passes N group live (drop i goals)
+  unfolding passes
+  passes-turn live i l = rw add-one (sym (ap (passes N group live) (drop-cons goals i 0 l)))
+
+  pub passes-end : (live i : ℕ) → length goals ≤ i → passes N group live (drop i goals) ≡ live
+  unfolding passes
+  passes-end live i l = ap (passes N group live) (drop-of-length-le goals l)

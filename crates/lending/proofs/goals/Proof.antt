@@ -1,0 +1,30 @@
+-- `lending::goals` meets its contract.
+use borrow.Author.Needs.{needs}
+use mathlib.Core.Path.{ap, _∙_}
+use Rattle.jobfile.specs.declared.Verdict.the-variants as Verdict
+use Rattle.lending.proofs.VerdictLaws.{bad-told}
+use Rattle.lending.proofs.goals.Statement.{statement}
+use Rattle.lending.proofs.goals.Tie as tie
+
+first-bad-requires : tie.Need-first-bad-requires
+first-bad-requires c κs = search needs
+
+enum-known-tested : tie.Need-enum-known-tested
+enum-known-tested c = search needs
+
+refusal-at-requires : tie.Need-refusal-at-requires
+refusal-at-requires c κs = search needs
+
+enum-told : tie.Need-enum-told
+enum-told c = search needs
+
+returns : tie.Need-returns
+returns c = ap Verdict.Refused (c .refusal-at .ensures) ∙ simp (bad-told _ _ (c .before .before .before .before .first-bad .ensures) (c .before .before .tested .given .1))
+
+returns-2 : tie.Need-returns-2
+returns-2 c = simp (bad-told _ _ (c .before .before .first-bad .ensures) (c .enum-told .given .1))
+
+pub goals-spec : {M : Type 1} → statement M
+goals-spec =
+    tie.close
+    (tie.spec first-bad-requires enum-known-tested refusal-at-requires enum-told returns returns-2)

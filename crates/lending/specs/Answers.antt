@@ -1,0 +1,59 @@
+-- What a call answers: a refusal with reason and place, or a value (docs/RULES.md, "Reasons to turn a call down"). The file is tested first,
+-- then the arguments in the order of the reasons' numbers; the first fault ends the call.
+use mathlib.Core.Bool.{Bool, true, false}
+use mathlib.Core.List.{List, _++_}
+use mathlib.Core.Option.{Option, none, some}
+use Prim.Native.Nat.{ℕ}
+use lib.ListN.{length, drop}
+use Rattle.reading.specs.declared.Reason.{Reason}
+use Rattle.reading.specs.Reasons.{answers}
+use Rattle.reading.specs.Got.{Got, got, refused}
+
+pub data Answer (A : Type 0) : Type 0 where
+  refusal : Reason → ℕ → Answer A
+  value : A → Answer A
+
+-- the call on the job of a file, where the file is accepted
+abbrev pub onJob : {A B : Type 0} → Got A → (A → Answer B) → Answer B
+onJob (refused reason place) call = refusal reason place
+onJob (got job end) call = call job
+
+-- a test of an argument: where it fails, its reason at place 0
+abbrev pub unless : {A : Type 0} → Bool → Reason → Answer A → Answer A
+unless true reason answer = refusal reason 0
+unless false reason answer = answer
+
+-- a test that finds a place
+abbrev pub unlessAt : {A : Type 0} → Option ℕ → Reason → Answer A → Answer A
+unlessAt (some place) reason answer = refusal reason place
+unlessAt none reason answer = answer
+
+-- several tests that stand together, and what is answered behind them
+abbrev pub passed : Answer (Unit {0})
+passed = value tt
+
+abbrev pub behind : {A : Type 0} → Answer (Unit {0}) → Answer A → Answer A
+behind (refusal reason place) answer = refusal reason place
+behind (value x) answer = answer
+
+-- what was found; the reason that there is none has place 0
+abbrev pub found : {A : Type 0} → Option A → Reason → Answer A
+found (some x) reason = value x
+found none reason = refusal reason 0
+
+-- input is accepted if no reason other than 14 to 16 turns the call down
+abbrev pub accepted : {A : Type 0} → Answer A → Bool
+accepted (refusal reason place) = answers reason
+accepted (value x) = true
+
+-- ---- calls that write
+
+-- what such a call leaves: its answer, and the buffer that was lent
+pub record Left (A : Type 0) : Type 0 where
+  pub answer : Answer A
+  pub buffer : List ℕ
+
+-- the words that were made stand in front, and the later ones keep; a refusal writes nothing
+abbrev pub leaving : {A B : Type 0} → (A → List ℕ) → (A → B) → List ℕ → Answer A → Left B
+leaving words told old (refusal reason place) = record { answer = refusal reason place; buffer = old }
+leaving words told old (value x) = record { answer = value (told x); buffer = words x ++ drop (length (words x)) old }

@@ -1,0 +1,3 @@
+-- What calls answer, and the tests of what a caller lends.
+pub mod Answers
+pub mod Tests

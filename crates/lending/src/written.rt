@@ -1,0 +1,31 @@
+// Mutex words, written into a buffer that a caller lends.
+ghost use mathlib.Core.Path.{_≡_};
+ghost use mathlib.Core.List.{_++_};
+ghost use Prim.Native.Nat.{ℕ, _^_, _≤_, _<_};
+ghost use lib.ListN.{length, getD, take, drop};
+
+// The words of 32 facts. Later words keep.
+pub fn facts(words: &mut [u32], mutex: &[u64; 64])
+    requires { ⌜ (32 ≤ length (now words)) × ((i : ℕ) → i < 32 → getD (now mutex) i 0 < 2 ^ 32) ⌝ }
+    ensures { λ r. ⌜ now (words .exit) ≡ take 32 (now (mutex .entry)) ++ drop 32 (now (words .entry)) ⌝ }
+{
+    let made: &[u64] = mutex;
+    let mut i: usize = 0;
+    while i < 32 {
+        words[i] = made[i] as u32;
+        i += 1;
+    }
+}
+
+// The words of 64 vertices. Later words keep.
+pub fn vertices(words: &mut [u64], mutex: &[u64; 64])
+    requires { ⌜ 64 ≤ length (now words) ⌝ }
+    ensures { λ r. ⌜ now (words .exit) ≡ now (mutex .entry) ++ drop 64 (now (words .entry)) ⌝ }
+{
+    let made: &[u64] = mutex;
+    let mut i: usize = 0;
+    while i < 64 {
+        words[i] = made[i];
+        i += 1;
+    }
+}

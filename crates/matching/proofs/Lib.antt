@@ -1,0 +1,2 @@
+-- The laws behind names and likeness.
+pub mod SameLaws

@@ -1,0 +1,3 @@
+-- Names and likeness, in the order of docs/RULES.md, "Names and comparison".
+pub mod Same
+pub mod Names

@@ -1,0 +1,2 @@
+-- The laws behind the text.
+pub mod TextLaws
