@@ -21,7 +21,7 @@ use Rattle.jobfile.specs.Job.{Job}
 use Rattle.jobfile.specs.Answers as Answers
 use Rattle.jobfile.specs.Answers.{padded}
 use Rattle.jobfile.specs.Read.{read, readJob, fittings}
-use Rattle.network.proofs.ListedLaws.{padded-at}
+use Rattle.jobfile.proofs.ReadLaws.{padded-at}
 use Rattle.graph.specs.Rounds.{Fitting, fewest}
 use Rattle.graph.specs.Layers.{Layer, factsOver, factLayer, roundLayer}
 use Rattle.graph.specs.Back.{Sized}

@@ -21,8 +21,8 @@ use Rattle.jobfile.specs.Read.{below, setsAt, entryAt, bodyAt, read, readJob, f
 use Rattle.jobfile.specs.Answers.{padded, Few, FittingBounds}
 use Rattle.jobfile.specs.Answers as Answers
 use Rattle.jobfile.proofs.Lawful.{All, then-got, refuse-got, same-value}
+use Rattle.jobfile.proofs.ReadLaws.{padded-at, nothing-there}
 use Rattle.jobfile.proofs.NamingLaws.{mapGot, entryBy, jobBy, read-same}
-use Rattle.network.proofs.ListedLaws.{padded-at}
 use Rattle.graph.specs.Rounds.{fittingOf}
 use Rattle.graph.specs.Back.{Sized}
 use Rattle.layering.specs.Drawn.{fittingIn}
@@ -195,11 +195,8 @@ sized-none reason place = record {
   needs = λ a l. absurd (omega arith);
   gives = λ a l. absurd (omega arith);
   takes = λ a l. absurd (omega arith);
-  past = λ a l. (nothing a, nothing a, nothing a);
+  past = λ a l. (nothing-there a, nothing-there a, nothing-there a);
 }
-  where
-    nothing : (a : ℕ) → getD (padded 64 []) a 0 ≡ 0
-    nothing a = padded-at 64 [] zero-le a
 
 -- ---- what a reading is good for
 

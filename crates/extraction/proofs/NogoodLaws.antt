@@ -4,7 +4,7 @@ use mathlib.Core.Path.{_≡_, refl, sym, ap, subst, _∙_}
 use mathlib.Core.Logic.{_⊎_, inl, inr, _≢_}
 use mathlib.Core.Bool.{Bool, true, false, not, _&&_, true≢false}
 use mathlib.Core.List.{List}
-use Prim.Native.Nat.{ℕ, zero, suc, _+_, _*_, _/_, _%_, _^_, _≤_, _<_}
+use Prim.Native.Nat.{ℕ, _+_, _*_, _/_, _%_, _^_, _≤_, _<_}
 use native.Mathlib.Decide.{ℕ-discrete}
 use native.Mathlib.Omega.{arith}
 use lib.Dec.{eqb}
@@ -12,7 +12,7 @@ use lib.ListN.{length, getD, set, replicate, length-set}
 use lib.Seq.{getD-set-same, getD-set-other}
 use borrow.Author.Tests.{eq-eqb, ne-eqb, eqb-true}
 use Rattle.sets.specs.Sets.{_⊆_, without}
-use Rattle.sets.proofs.Ranges.{both-true}
+use Rattle.sets.proofs.Ranges.{both-true, zeros}
 use Rattle.sets.proofs.Bits.{none-without}
 use Rattle.extraction.specs.Extraction.{Graph, Back, Fine, Nogoods, Noted, Stored, StoredIf}
 use Rattle.extraction.specs.declared.Outcome.the-variants as Outcome
@@ -59,14 +59,9 @@ stored-if T true old new known k e stored few below none = stored-nogoods T old 
 stored-if T false old new known k e same few below none = subst (Nogoods T) (sym same) known
 
 -- a table of zeros has no entries
-zero-at : (n i : ℕ) → getD (replicate {A = ℕ} n 0) i 0 ≡ 0
-zero-at zero i = refl
-zero-at (suc n) zero = refl
-zero-at (suc n) (suc i) = zero-at n i
-
 pub empty-nogoods : (T : Graph) (n : ℕ) → Nogoods T (replicate {A = ℕ} n 0)
 unfolding Nogoods
-empty-nogoods T n i pos r = absurd (omega (arith, ap (λ (y : ℕ). y / 2 ^ 32) (zero-at n i)))
+empty-nogoods T n i pos r = absurd (omega (arith, ap (λ (y : ℕ). y / 2 ^ 32) (zeros n i)))
 
 -- ---- what is written
 

@@ -17,7 +17,7 @@ use Rattle.sets.specs.Ranges.{given, sumTo, maxTo, listTo}
 use Rattle.sets.specs.Sets.{member, without, count, setOf}
 use Rattle.sets.proofs.Ranges.{same-cases, given-both, given-zero, given-le, sum-cong, sum-past, sum-but, max-most, max-turn, list-length, list-at}
 use Rattle.sets.proofs.Bits.{bit-and}
-use Rattle.sets.proofs.Made.{set-turn}
+use Rattle.sets.proofs.Made.{set-made}
 use Rattle.sets.proofs.Counts.{count-le, count-part, count-without}
 use Rattle.network.specs.Network.{Network}
 use Rattle.network.specs.Filter.{share, contribution, others, supported, pass, passes}
@@ -122,9 +122,7 @@ module _ (N : Network) (group : ℕ → ℕ) (live p : ℕ) where
   pub pass-turn : (s v rest r : ℕ) (passed : Bool) → s ≡ setOf v keeps → rest ≡ others N group live p (group v)
       → passed ≡ (member live v && leb (count (without p (N .wishes v))) rest) → r ≡ bitOr s (given passed (2 ^ v)) → r ≡ setOf (v + 1) keeps
   unfolding supported
-  pass-turn s v rest r passed es er ep e =
-      e ∙ ap₂ (λ (x : ℕ) (b : Bool). bitOr x (given b (2 ^ v))) es (ep ∙ ap (λ (x : ℕ). member live v && leb (count (without p (N .wishes v))) x) er)
-      ∙ sym (set-turn v keeps)
+  pass-turn s v rest r passed es er ep e = set-made keeps s v r passed es (ep ∙ ap (λ (x : ℕ). member live v && leb (count (without p (N .wishes v))) x) er) e
 
   pub pass-end : (s v : ℕ) → s ≡ setOf v keeps → v ≡ N .articles → s ≡ pass N group live p
   unfolding pass

@@ -10,10 +10,10 @@ use lib.Dec.{eqb}
 use lib.ListN.{length, getD}
 use lib.Pow.{pow-pos}
 use borrow.Author.Tests.{ne-eqb, eqb-false, not-true}
-use Rattle.sets.specs.Ranges.{num, given, everyTo}
+use Rattle.sets.specs.Ranges.{given, everyTo}
 use Rattle.sets.specs.Sets.{bit, _∈_, member, part, meets, setOf, gathered}
 use Rattle.sets.proofs.Ranges.{both-true, true-both, neither, same-true, same-false, given-le, every-at, at-every, list-length, list-at, list-past}
-use Rattle.sets.proofs.Bits.{bit-cases, bit-empty, not-in, no-member, member-below, member-yes, yes-member, member-no, where-in, in-where, part-in, in-part, part-yes, yes-part, meets-no, no-meets}
+use Rattle.sets.proofs.Bits.{bit-cases, bit-empty, member-num, not-in, no-member, member-below, member-yes, yes-member, member-no, where-in, in-where, part-in, in-part, part-yes, yes-part, meets-no, no-meets}
 use Rattle.sets.proofs.Made.{set-below, set-bit, in-set, gathered-at, gathered-from}
 use Rattle.graph.specs.Rounds.{Steps, Fitting, disturb}
 use Rattle.graph.specs.Layers.{Layer, mutexWith, mutexWord, mutexes, vertices, opposed, rivals, standing, roundOver, givers, excluded, givenBy, factsOver, factLayer}
@@ -36,12 +36,8 @@ module _ (n m : ℕ) (test : ℕ → ℕ → Bool) where
   pub words-at : (p q : ℕ) → p < n → q < n → member (getD (mutexes n m test) p 0) q ≡ (member m p && (member m q && (not (eqb p q) && test p q)))
   words-at p q lp lq = ap (λ (x : ℕ). member x q) (word-here p lp) ∙ go (member m p)
     where
-      same : (t : Bool) → eqb (num t) 1 ≡ t
-      same true = refl
-      same false = refl
-
       go : (b : Bool) → member (given b (setOf n (mutexWith m test p))) q ≡ (b && mutexWith m test p q)
-      go true = ap (λ (x : ℕ). eqb x 1) (set-bit n (mutexWith m test p) q lq) ∙ same (mutexWith m test p q)
+      go true = member-num (setOf n (mutexWith m test p)) q (mutexWith m test p q) (set-bit n (mutexWith m test p) q lq)
       go false = member-no 0 q (bit-empty q)
 
   -- of two members the test alone tells

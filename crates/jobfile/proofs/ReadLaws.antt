@@ -39,13 +39,17 @@ column-is n l c room e h same = ext-getD 0 l (padded 64 (map h (listTo n e))) (c
     at i (yes k) m = sym (list-at 64 (λ j. getD (map h (listTo n e)) j 0) 0 i m ∙ ap (λ (g : List ℕ). getD g i 0) (list-map n e h) ∙ list-at n (λ j. h (e j)) 0 i k ∙ same i)
     at i (no k) m = c .past i (omega arith) ∙ sym (list-at 64 (λ j. getD (map h (listTo n e)) j 0) 0 i m ∙ ap (λ (g : List ℕ). getD g i 0) (list-map n e h) ∙ list-past n (λ j. h (e j)) 0 i (omega arith))
 
--- where nothing was read every element is 0
-nothing-there : (i : ℕ) → getD (padded 64 []) i 0 ≡ 0
-nothing-there i = go (decLt i 64)
+-- a list in an array that it fits into
+pub padded-at : (size : ℕ) (l : List ℕ) → length l ≤ size → (i : ℕ) → getD (padded size l) i 0 ≡ getD l i 0
+padded-at size l h i = go (decLt i size)
   where
-    go : Dec (i < 64) → getD (padded 64 []) i 0 ≡ 0
-    go (yes h) = list-at 64 (λ j. 0) 0 i h
-    go (no h) = list-past 64 (λ j. 0) 0 i (omega arith)
+    go : Dec (i < size) → getD (padded size l) i 0 ≡ getD l i 0
+    go (yes k) = list-at size (λ j. getD l j 0) 0 i k
+    go (no k) = list-past size (λ j. getD l j 0) 0 i (omega arith) ∙ sym (List·getD-eq-default l 0 (omega arith))
+
+-- where nothing was read every element is 0
+pub nothing-there : (i : ℕ) → getD (padded 64 []) i 0 ≡ 0
+nothing-there i = padded-at 64 [] zero-le i
 
 within-none : (end : ℕ) → Within end (padded 64 []) (padded 64 [])
 within-none end i = omega (arith, nothing-there i)

@@ -13,7 +13,7 @@ use lib.Seq.{getD-set-same, getD-set-other, ext-getD}
 use borrow.Author.Tests.{eq-eqb, ne-eqb}
 use Rattle.sets.specs.Ranges.{given, everyTo, listTo}
 use Rattle.sets.specs.Sets.{bit, _∈_, _⊆_, member, without, part, meets, full, setOf, gathered, lowest}
-use Rattle.sets.proofs.Ranges.{every-at, at-every, list-length, list-at, list-past, list-cong}
+use Rattle.sets.proofs.Ranges.{same-true, every-at, at-every, list-length, list-at, list-past, list-cong}
 use Rattle.sets.proofs.Bits.{ext, bit-le, bit-empty, bit-and, member-yes, yes-member, member-no, part-in, in-part, part-yes, yes-part, part-full, member-below, in-less, less-in}
 use Rattle.sets.proofs.Made.{set-below, set-in, in-set, set-cong, set-turn}
 use Rattle.sets.proofs.Lowest.{lowest-below, lowest-member}
@@ -65,12 +65,6 @@ module _ (n s : ℕ) (test : ℕ → Bool) where
       go : (x : ℕ) → x < n → (m : Bool) → member s x ≡ m → not m || test x ≡ true
       go x l true e = h x l (yes-member s x e)
       go x l false e = refl
-
--- two tests that pass together are one
-same-test : (a b : Bool) → (a ≡ true → b ≡ true) → (b ≡ true → a ≡ true) → a ≡ b
-same-test true b h k = sym (h refl)
-same-test false true h k = k refl
-same-test false false h k = refl
 
 -- ---- those that are in the row of every member
 
@@ -142,7 +136,7 @@ module _ (n : ℕ) (row : ℕ → ℕ) where
 
   -- a set lies in all these rows exactly where it lies in what they share
   pub all-part : (s g : ℕ) → g < 2 ^ n → part g (inAll n s row) ≡ everyTo n (λ x. not (member s x) || part g (row x))
-  all-part s g h = same-test (part g (inAll n s row)) (everyTo n (λ x. not (member s x) || part g (row x))) each shared
+  all-part s g h = same-true (part g (inAll n s row)) (everyTo n (λ x. not (member s x) || part g (row x))) each shared
     where
       each : part g (inAll n s row) ≡ true → everyTo n (λ x. not (member s x) || part g (row x)) ≡ true
       each t = member-every n s (λ x. part g (row x)) (λ x l e.

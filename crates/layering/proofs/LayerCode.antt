@@ -12,7 +12,7 @@ use borrow.Author.Tests.{lt-ltb, le-ltb}
 use Rattle.sets.specs.Ranges.{given, listTo}
 use Rattle.sets.specs.Sets.{part, meets, setOf, gathered}
 use Rattle.sets.proofs.Ranges.{list-at, list-past, list-length}
-use Rattle.network.proofs.ListedLaws.{padded-at}
+use Rattle.jobfile.proofs.ReadLaws.{padded-at}
 use Rattle.graph.specs.Rounds.{Steps, Fitting, listedSteps, disturb}
 use Rattle.graph.specs.Layers.{Layer, mutexes, vertices, opposed, stands, rivals, standing, roundOver, givers, excluded, givenBy, factsOver, factLayer, roundLayer}
 use Rattle.graph.specs.Back.{Sized}

@@ -12,10 +12,10 @@ use lib.ListN.{getD}
 use lib.Pow.{pow-mono}
 use borrow.Author.Tests.{lt-ltb, le-ltb, eq-eqb, ne-eqb}
 use Rattle.sets.specs.Ranges.{given}
-use Rattle.sets.specs.Sets.{bit, member, without, _⊆_, part, meets, setOf, gathered}
+use Rattle.sets.specs.Sets.{bit, member, without, part, meets, setOf, gathered}
 use Rattle.sets.proofs.Ranges.{given-yes, given-no}
-use Rattle.sets.proofs.Bits.{bit-le, member-below, member-yes, member-no, part-in, in-part, ext}
-use Rattle.sets.proofs.Made.{set-turn, gathered-at, gathered-from}
+use Rattle.sets.proofs.Bits.{bit-le, member-yes, member-no, ext}
+use Rattle.sets.proofs.Made.{gathered-part}
 use Rattle.graph.specs.Rounds.{Steps, listedSteps, disturb}
 use Rattle.graph.specs.Layers.{mutexWith, mutexWord, Layer, mutexes, opposed, stands, rivals, standing, roundOver}
 use Rattle.layering.specs.Drawn.{layer, vertexWords}
@@ -34,12 +34,7 @@ vertex-step w x kept steps l = sym (ap (λ (t : Bool). cond t (given kept (2 ^ x
 
 -- where no member is at or above n, the rows from n on do not count
 pub gathered-room : (n m s : ℕ) (f : ℕ → ℕ) → n ≤ m → s < 2 ^ n → gathered m s f ≡ gathered n s f
-gathered-room n m s f l h = ext (gathered m s f) (gathered n s f) (λ i. omega (arith, half m n h i, half n m (omega (arith, pow-mono l)) i))
-  where
-    half : (j k : ℕ) → s < 2 ^ k → gathered j s f ⊆ gathered k s f
-    half j k b =
-        in-part (gathered j s f) (gathered k s f)
-        (λ i e. let (a, o, c, g) = gathered-from j f s i e in part-in (f a) (gathered k s f) (gathered-at k f s a (member-below s k a b c) c) i g)
+gathered-room n m s f l h = ext (gathered m s f) (gathered n s f) (λ i. omega (arith, gathered-part m n s f h i, gathered-part n m s f (omega (arith, pow-mono l)) i))
 
 -- so the facts that are mutex with a set of w facts may be gathered from more than w words
 pub opposed-made : (w n facts s r : ℕ) (words : List ℕ) → w ≤ n → s < 2 ^ w → r ≡ gathered n s (λ i. getD words i 0) → r ≡ opposed w (layer facts words) s
@@ -115,10 +110,6 @@ unfolding rivals
 mutex-rivals w S L o m x y t eo e = e ∙ ap (λ (a : ℕ). mutexAt S a m x y) eo
 
 -- ---- the sets, and the round layer
-
--- one turn of a loop that makes a set, in which u is taken in where it passed
-pub set-made : (test : ℕ → Bool) (s u r : ℕ) (passed : Bool) → s ≡ setOf u test → passed ≡ test u → r ≡ bitOr s (given passed (2 ^ u)) → r ≡ setOf (u + 1) test
-set-made test s u r passed es ep e = e ∙ ap₂ (λ (x : ℕ) (t : Bool). bitOr x (given t (2 ^ u))) es ep ∙ sym (set-turn u test)
 
 pub word-absent : (n m : ℕ) (test : ℕ → ℕ → Bool) (x b : ℕ) → b ≡ bit m x → b ≡ 0 → 0 ≡ mutexWord n m test x
 word-absent n m test x b e z = sym (given-no (member m x) (setOf n (mutexWith m test x)) (member-no m x (sym e ∙ z)))

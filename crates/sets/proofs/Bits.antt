@@ -210,6 +210,10 @@ yes-member s i t = eqb-true (bit s i) 1 t
 pub member-no : (s i : ℕ) → bit s i ≡ 0 → member s i ≡ false
 member-no s i e = ne-eqb (bit s i) 1 (λ q. let z : ⊥ = omega arith in z)
 
+pub member-num : (s i : ℕ) (b : Bool) → bit s i ≡ num b → member s i ≡ b
+member-num s i true e = member-yes s i e
+member-num s i false e = member-no s i e
+
 pub not-member : (s i : ℕ) → member s i ≡ false → bit s i ≡ 0
 not-member s i t = not-in s i (eqb-false (bit s i) 1 t)
 

@@ -1,5 +1,5 @@
 -- The laws of sets that are made: by a test, as a union, from the members of another set, as a complement. Assumes nothing.
-use mathlib.Core.Path.{_≡_, refl, sym, ap, _∙_}
+use mathlib.Core.Path.{_≡_, refl, sym, ap, ap₂, _∙_}
 use mathlib.Core.Logic.{_⊎_, inl, inr}
 use mathlib.Core.Bool.{Bool, true, false}
 use Prim.Native.Nat.{ℕ, zero, suc, _+_, _-_, _*_, _/_, _%_, _^_, _≤_, _<_}
@@ -87,6 +87,10 @@ set-turn u test = go (test-cases (test u))
     go : (test u ≡ true) ⊎ (test u ≡ false) → setOf (u + 1) test ≡ bitOr (setOf u test) (given (test u) (2 ^ u))
     go (inl t) = set-take u test t ∙ ap (bitOr (setOf u test)) (sym (given-yes (test u) (2 ^ u) t))
     go (inr t) = set-skip u test t ∙ sym (or-zero-r (setOf u test)) ∙ ap (bitOr (setOf u test)) (sym (given-no (test u) (2 ^ u) t))
+
+-- one turn of a loop that makes a set, in which u is taken in where it passed
+pub set-made : (test : ℕ → Bool) (s u r : ℕ) (passed : Bool) → s ≡ setOf u test → passed ≡ test u → r ≡ bitOr s (given passed (2 ^ u)) → r ≡ setOf (u + 1) test
+set-made test s u r passed es ep e = e ∙ ap₂ (λ (x : ℕ) (t : Bool). bitOr x (given t (2 ^ u))) es ep ∙ sym (set-turn u test)
 
 -- ---- unions
 
@@ -195,6 +199,12 @@ module _ (n : ℕ) (f : ℕ → ℕ) where
   -- and its end
   pub gathered-end : (all s : ℕ) → s ≡ 0 → bitOr all (gathered n s f) ≡ all
   gathered-end all s e = ap (λ (t : ℕ). bitOr all (gathered n t f)) e ∙ ap (bitOr all) gathered-none ∙ or-zero-r all
+
+-- a range that has all members is wide enough
+pub gathered-part : (n m s : ℕ) (f : ℕ → ℕ) → s < 2 ^ m → gathered n s f ⊆ gathered m s f
+gathered-part n m s f h =
+    in-part (gathered n s f) (gathered m s f)
+    (λ i e. let (a, l, b, o) = gathered-from n f s i e in part-in (f a) (gathered m s f) (gathered-at m f s a (member-below s m a h b) b) i o)
 
 -- ---- complements
 

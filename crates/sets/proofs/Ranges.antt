@@ -8,7 +8,7 @@ use native.Mathlib.Nat.{le-refl, le-trans, le-of-eq, eq-or-lt-of-le, le-max-left
 use native.Mathlib.Numerals.{add-one}
 use native.Mathlib.Omega.{arith}
 use lib.Dec.{leb, eqb}
-use lib.ListN.{length, getD, length-append, List·getD-append, List·getD-eq-default}
+use lib.ListN.{length, getD, replicate, length-append, List·getD-append, List·getD-eq-default}
 use lib.Seq.{getD-at}
 use borrow.Author.Tests.{eq-eqb, ne-eqb, eqb-true, eqb-false, le-leb, leb-true}
 use Rattle.sets.specs.Ranges.{num, given, everyTo, anyTo, sumTo, maxTo, listTo}
@@ -358,3 +358,10 @@ max-turn u f = rw add-one
 pub list-turn : {A : Type 0} (u : ℕ) (f : ℕ → A) → listTo (u + 1) f ≡ listTo u f ++ (f u ∷ [])
 unfolding listTo
 list-turn u f = rw add-one
+
+-- ---- lists of zeros
+
+pub zeros : (n i : ℕ) → getD (replicate {A = ℕ} n 0) i 0 ≡ 0
+zeros zero i = refl
+zeros (suc n) zero = refl
+zeros (suc n) (suc i) = zeros n i

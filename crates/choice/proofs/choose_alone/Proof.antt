@@ -5,12 +5,13 @@ use mathlib.Core.List.{List}
 use Prim.Native.Nat.{ℕ, _≤_}
 use denote.Ref.{now}
 use lib.ListN.{length, replicate}
+use Rattle.sets.proofs.Ranges.{zeros}
 use Rattle.sets.proofs.Bits.{part-refl}
 use Rattle.network.specs.Network.{listed}
 use Rattle.network.specs.Groups.{Partition}
 use Rattle.network.proofs.GroupLaws.{groups-right}
 use Rattle.choice.specs.Choice.{chosen}
-use Rattle.choice.proofs.OfferLaws.{zeros, own-groups, goal-none, goal-whole}
+use Rattle.choice.proofs.OfferLaws.{own-groups, goal-none, goal-whole}
 use Rattle.choice.proofs.choose_alone.Statement.{statement}
 use Rattle.choice.proofs.choose_alone.Tie as tie
 

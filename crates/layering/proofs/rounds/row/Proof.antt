@@ -5,12 +5,13 @@ use mathlib.Core.Path.{_≡_, refl, ap, _∙_}
 use Prim.Native.Nat.{ℕ, _-_, _≤_}
 use native.Mathlib.Omega.{arith}
 use lib.ListN.{getD}
+use Rattle.sets.proofs.Made.{set-made}
 use Rattle.sets.specs.Ranges.{sumTo}
 use Rattle.sets.specs.Sets.{setOf}
 use Rattle.graph.specs.Rounds.{listedSteps}
 use Rattle.graph.specs.Layers.{mutexWith, rivals}
 use Rattle.layering.specs.Drawn.{layer}
-use Rattle.layering.proofs.RoundCode.{opposed-made, set-made, mutex-rivals}
+use Rattle.layering.proofs.RoundCode.{opposed-made, mutex-rivals}
 use Rattle.layering.proofs.rounds.row.Statement.{statement}
 use Rattle.layering.proofs.rounds.row.Tie as tie
 

@@ -5,12 +5,12 @@ use mathlib.Core.Path.{_≡_, refl, ap, _∙_}
 use mathlib.Core.List.{[]}
 use Prim.Native.Nat.{ℕ, _+_, _-_, _≤_}
 use native.Mathlib.Omega.{arith}
+use Rattle.sets.proofs.Made.{set-made}
 use Rattle.sets.specs.Ranges.{sumTo}
 use Rattle.sets.specs.Sets.{setOf}
 use Rattle.graph.specs.Rounds.{listedSteps}
 use Rattle.graph.specs.Layers.{stands, standing}
 use Rattle.layering.specs.Drawn.{layer}
-use Rattle.layering.proofs.RoundCode.{set-made}
 use Rattle.layering.proofs.rounds.standing.Statement.{statement}
 use Rattle.layering.proofs.rounds.standing.Tie as tie
 
