@@ -3,6 +3,7 @@
 A check returns how many things it saw pass, and raises Failed with the reason where one did not.
 A check that finds nothing to look at fails: one that looked at nothing has shown nothing.
 """
+import functools
 import hashlib
 import os
 import pathlib
@@ -147,8 +148,8 @@ def second_program():
         name = f"show_{script.stem}"
         if name not in programs() and script.stem in imported:
             continue  # what several of them share
-        if script.stem in programs():
-            continue  # it runs a program that takes input: kitchen_prints
+        if script.stem in programs() or script.stem == "beside":
+            continue  # it runs ours itself: kitchen_prints, beside
         demand(name in programs(), f"reference/{script.name} is about a program {name}, which is not there")
         expected = subprocess.run([sys.executable, "-B", str(script)], stdin=subprocess.DEVNULL, capture_output=True, text=True)
         demand(expected.returncode == 0, f"reference/{script.name}: " + expected.stderr.strip())
@@ -175,6 +176,74 @@ def kitchen_prints():
     return sum(counts.values())
 
 
+@functools.cache
+def built_library():
+    """The archive of the C interface, and a shared library made of it."""
+    run(["rt", "staticlib", "capi"])
+    archive, shared = "target/staticlib/libcapi.a", "target/libkitchen.so"
+    run(["cc", "-shared", "-o", shared, "-Wl,--whole-archive", archive, "-Wl,--no-whole-archive"])
+    return archive, shared
+
+
+def run(command, status=0):
+    """What a command prints; it has to end with this status."""
+    done = subprocess.run(command, stdin=subprocess.DEVNULL, capture_output=True, text=True)
+    demand(done.returncode == status, f"{' '.join(command)} ended with status {done.returncode}: {(done.stdout + done.stderr).strip()[-2000:]}")
+    return done.stdout
+
+
+def header():
+    """include/kitchen.h declares the functions of capi, each once, and no others; and it is plain C and C++."""
+    declared = re.findall(r"^uint32_t (kitchen_\w+)\(", (ROOT / "include" / "kitchen.h").read_text(), re.M)
+    exported = re.findall(r'pub extern "C" fn (\w+)\(', (ROOT / "crates" / "capi" / "src" / "lib.rt").read_text())
+    demand(sorted(declared) == sorted(exported) and len(set(declared)) == 9, f"the header declares {declared}, capi exports {exported}")
+    run(["cc", "-std=c99", "-Wall", "-Wextra", "-Werror", "-fsyntax-only", "-x", "c", "include/kitchen.h"])
+    run(["cc", "-Wall", "-Wextra", "-Werror", "-fsyntax-only", "-x", "c++", "include/kitchen.h"])
+    return len(declared)
+
+
+def hosts():
+    """The C example and the Python example print the same of the sample jobs, and what is stored."""
+    archive, shared = built_library()
+    run(["cc", "-std=c99", "-Wall", "-Wextra", "-Werror", "-I", "include", "host/example.c", archive, "-o", "target/example"])
+    files = []
+    for text in sorted((ROOT / "jobs").glob("*.txt")):
+        files.append(f"target/{text.stem}.job")
+        run(["tools/job", "write", str(text), "-o", files[-1]])
+    demand(files, "jobs/ has no sample")
+    expected = (ROOT / "host" / "stdout").read_text()
+    for command in (["target/example"], [sys.executable, "-B", "host/example.py", shared]):
+        printed = run([*command, *files], status=1)  # one of the samples has no selection
+        demand(printed == expected, f"{command[0]} prints something else than host/stdout: {printed}")
+    return 2 * len(files)
+
+
+def beside():
+    """The second program beside ours through the C interface: at least 20,000 comparisons, and every sort of them."""
+    printed = run([sys.executable, "-B", "reference/beside.py", built_library()[1]])
+    print(printed.strip(), flush=True)
+    counts = {name.strip(): int(count) for name, count in re.findall(r"([a-z0-9 ]+): (\d+)", printed)}
+    wanted = [f"refused {n}" for n in range(1, 17)] + [f"plans of {n}" for n in range(4)]
+    wanted += ["passes that struck", "floors that mattered", "choices that set aside", "layers with mutexes", "names given", "alike"]
+    missing = [name for name in wanted if not counts.get(name)]
+    demand(not missing, "nothing was compared of: " + ", ".join(missing))
+    demand(counts["comparisons"] >= 20_000, f"only {counts['comparisons']} comparisons")
+    return counts["comparisons"]
+
+
+def faults():
+    """Each mistake that the second program makes on purpose is found."""
+    for fault in range(1, 7):
+        printed = run([sys.executable, "-B", "reference/beside.py", built_library()[1], "--fault", str(fault)], status=1)
+        demand("comparisons: " in printed, f"fault {fault}: {printed}")
+    return 6
+
+
+def tool():
+    """tests/tool.py: job texts are written and read, and faults are named by line."""
+    return int(re.search(r"(\d+) checks", run([sys.executable, "-B", "tests/tool.py"]))[1])
+
+
 def small_stack():
     """The planner's program prints the same within a stack of 1 MB: its recursion is not deep."""
     name = "show_plans"
@@ -196,7 +265,7 @@ def snapshot():
     return seen
 
 
-CHECKS = [prove_and_run, refused_for_a_fact, layout, nothing_foreign, assumptions_as_stated, trace, documents, second_program, kitchen_prints, small_stack]
+CHECKS = [prove_and_run, refused_for_a_fact, layout, nothing_foreign, assumptions_as_stated, trace, documents, second_program, kitchen_prints, small_stack, header, hosts, beside, faults, tool]
 
 
 def main():

@@ -1,0 +1,2 @@
+-- The laws behind the C interface.
+pub mod ReturnedLaws

@@ -1,0 +1,41 @@
+-- `capi::kitchen_choose` meets its contract: each return by what the call answered.
+use borrow.Author.Needs.{needs}
+use mathlib.Core.Path.{sym, ap, _∙_}
+use Rattle.calls.specs.Choose.{choiceTold}
+use Rattle.capi.specs.Returned.{both}
+use Rattle.capi.proofs.ReturnedLaws.{value-handed, refusal-handed}
+use Rattle.capi.proofs.kitchen_choose.Statement.{statement}
+use Rattle.capi.proofs.kitchen_choose.Tie as tie
+
+choose-requires : tie.Need-choose-requires
+choose-requires c κs = search needs
+
+enum-known-answer : tie.Need-enum-known-answer
+enum-known-answer c = search needs
+
+answered-requires : tie.Need-answered-requires
+answered-requires c κs = search needs
+
+enum-known-answer-2 : tie.Need-enum-known-answer-2
+enum-known-answer-2 c = search needs
+
+refused-requires : tie.Need-refused-requires
+refused-requires c κs = search needs
+
+returns : tie.Need-returns
+returns c = value-handed both (sym (c .before .before .before .before .before .choose .ensures) ∙ ap choiceTold (c .before .before .before .answer .given .1)) (c .answered .ensures .0) (c .answered .ensures .1)
+
+returns-2 : tie.Need-returns-2
+returns-2 c = refusal-handed both (sym (c .before .before .before .before .before .choose .ensures) ∙ ap choiceTold (c .before .before .before .answer2 .given .1)) (c .refused .ensures .0) (c .refused .ensures .1)
+
+pub kitchen-choose-spec : {M : Type 1} → statement M
+kitchen-choose-spec =
+    tie.close
+    (tie.spec
+    choose-requires
+    enum-known-answer
+    answered-requires
+    enum-known-answer-2
+    refused-requires
+    returns
+    returns-2)

@@ -1,0 +1,57 @@
+-- `capi::kitchen_fact_layer` meets its contract: each return by what the call answered and left.
+use borrow.Author.Needs.{needs}
+use mathlib.Core.Path.{sym, ap, _∙_}
+use Rattle.calls.specs.Layers.{factsTold}
+use Rattle.capi.specs.Returned.{alone}
+use Rattle.capi.proofs.ReturnedLaws.{value-handed, refusal-handed}
+use Rattle.capi.proofs.kitchen_fact_layer.Statement.{statement}
+use Rattle.capi.proofs.kitchen_fact_layer.Tie as tie
+
+fact-layer-requires : tie.Need-fact-layer-requires
+fact-layer-requires c κs = search needs
+
+enum-known-answer : tie.Need-enum-known-answer
+enum-known-answer c = search needs
+
+cast-answered : tie.Need-cast-answered
+cast-answered c = search needs
+
+answered-requires : tie.Need-answered-requires
+answered-requires c κs = search needs
+
+enum-known-answer-2 : tie.Need-enum-known-answer-2
+enum-known-answer-2 c = search needs
+
+refused-requires : tie.Need-refused-requires
+refused-requires c κs = search needs
+
+same-length : tie.Need-same-length
+same-length c = search needs
+
+returns : tie.Need-returns
+returns c =
+    let e = c .before .before .before .before .before .before .before .fact-layer .ensures in
+    (value-handed alone (sym (ap (λ l. l .answer) e) ∙ ap factsTold (c .before .before .before .answer .given .1)) (c .answered .ensures .0) (c .answered .ensures .1), ap (λ l. l .buffer) e)
+
+same-length-2 : tie.Need-same-length-2
+same-length-2 c = search needs
+
+returns-2 : tie.Need-returns-2
+returns-2 c =
+    let e = c .before .before .before .before .before .before .before .fact-layer .ensures in
+    (refusal-handed alone (sym (ap (λ l. l .answer) e) ∙ ap factsTold (c .before .before .before .answer2 .given .1)) (c .refused .ensures .0) (c .refused .ensures .1), ap (λ l. l .buffer) e)
+
+pub kitchen-fact-layer-spec : {M : Type 1} → statement M
+kitchen-fact-layer-spec =
+    tie.close
+    (tie.spec
+    fact-layer-requires
+    enum-known-answer
+    cast-answered
+    answered-requires
+    enum-known-answer-2
+    refused-requires
+    same-length
+    returns
+    same-length-2
+    returns-2)

@@ -1,0 +1,41 @@
+-- `capi::kitchen_find` meets its contract: each return by what the call answered.
+use borrow.Author.Needs.{needs}
+use mathlib.Core.Path.{sym, ap, _∙_}
+use Rattle.calls.specs.Find.{findTold}
+use Rattle.capi.specs.Returned.{alone}
+use Rattle.capi.proofs.ReturnedLaws.{value-handed, refusal-handed}
+use Rattle.capi.proofs.kitchen_find.Statement.{statement}
+use Rattle.capi.proofs.kitchen_find.Tie as tie
+
+find-requires : tie.Need-find-requires
+find-requires c κs = search needs
+
+enum-known-answer : tie.Need-enum-known-answer
+enum-known-answer c = search needs
+
+answered-requires : tie.Need-answered-requires
+answered-requires c κs = search needs
+
+enum-known-answer-2 : tie.Need-enum-known-answer-2
+enum-known-answer-2 c = search needs
+
+refused-requires : tie.Need-refused-requires
+refused-requires c κs = search needs
+
+returns : tie.Need-returns
+returns c = value-handed alone (sym (c .before .before .before .before .before .find .ensures) ∙ ap findTold (c .before .before .before .answer .given .1)) (c .answered .ensures .0) (c .answered .ensures .1)
+
+returns-2 : tie.Need-returns-2
+returns-2 c = refusal-handed alone (sym (c .before .before .before .before .before .find .ensures) ∙ ap findTold (c .before .before .before .answer2 .given .1)) (c .refused .ensures .0) (c .refused .ensures .1)
+
+pub kitchen-find-spec : {M : Type 1} → statement M
+kitchen-find-spec =
+    tie.close
+    (tie.spec
+    find-requires
+    enum-known-answer
+    answered-requires
+    enum-known-answer-2
+    refused-requires
+    returns
+    returns-2)

@@ -1,0 +1,53 @@
+-- `capi::kitchen_partition` meets its contract: each return by what the call answered and left.
+use borrow.Author.Needs.{needs}
+use mathlib.Core.Path.{sym, ap, _∙_}
+use Rattle.calls.specs.Partition.{partitionTold}
+use Rattle.capi.specs.Returned.{nothing}
+use Rattle.capi.proofs.ReturnedLaws.{value-handed, refusal-handed}
+use Rattle.capi.proofs.kitchen_partition.Statement.{statement}
+use Rattle.capi.proofs.kitchen_partition.Tie as tie
+
+partition-requires : tie.Need-partition-requires
+partition-requires c κs = search needs
+
+enum-told : tie.Need-enum-told
+enum-told c = search needs
+
+answered-requires : tie.Need-answered-requires
+answered-requires c κs = search needs
+
+enum-known-answer : tie.Need-enum-known-answer
+enum-known-answer c = search needs
+
+refused-requires : tie.Need-refused-requires
+refused-requires c κs = search needs
+
+same-length : tie.Need-same-length
+same-length c = search needs
+
+returns : tie.Need-returns
+returns c =
+    let e = c .before .before .before .before .before .before .partition .ensures in
+    (value-handed nothing (sym (ap (λ l. l .answer) e) ∙ ap partitionTold (c .before .before .enum-told .given .1)) (c .answered .ensures .0) (c .answered .ensures .1), ap (λ l. l .buffer) e)
+
+same-length-2 : tie.Need-same-length-2
+same-length-2 c = search needs
+
+returns-2 : tie.Need-returns-2
+returns-2 c =
+    let e = c .before .before .before .before .before .before .before .partition .ensures in
+    (refusal-handed nothing (sym (ap (λ l. l .answer) e) ∙ ap partitionTold (c .before .before .before .answer .given .1)) (c .refused .ensures .0) (c .refused .ensures .1), ap (λ l. l .buffer) e)
+
+pub kitchen-partition-spec : {M : Type 1} → statement M
+kitchen-partition-spec =
+    tie.close
+    (tie.spec
+    partition-requires
+    enum-told
+    answered-requires
+    enum-known-answer
+    refused-requires
+    same-length
+    returns
+    same-length-2
+    returns-2)

@@ -1,0 +1,174 @@
+// The open calls for C and for all that can call C: numbers and slices only. A slice is a pointer and a
+// length there. include/kitchen.h declares what stands here. Each function returns 0 for an answer and
+// the reason's number for a refusal, and always writes both words of `out`.
+ghost use mathlib.Core.Path.{_≡_};
+ghost use mathlib.Core.List.{[], _∷_};
+ghost use Rattle.reading.specs.Items.{spots};
+ghost use Rattle.reading.specs.Reasons.{numberOf};
+ghost use Rattle.jobfile.specs.Read.{read, readJob, fittings, either};
+ghost use Rattle.jobfile.specs.Answers.{spotIn};
+ghost use Rattle.calls.specs.Partition.{partitionOf};
+ghost use Rattle.calls.specs.Pass.{passOf};
+ghost use Rattle.calls.specs.Choose.{chooseOf};
+ghost use Rattle.calls.specs.Layers.{factLayerOf, roundLayerOf};
+ghost use Rattle.calls.specs.Plan.{planOf, Buffer};
+ghost use Rattle.calls.specs.Find.{findOf};
+ghost use Rattle.calls.specs.Compare.{compareOf};
+ghost use Rattle.capi.specs.Returned.{returned, nothing, alone, both, test, spotted};
+use calls::ChoiceAnswer;
+use calls::CompareAnswer;
+use calls::FactsAnswer;
+use calls::FindAnswer;
+use calls::PartitionAnswer;
+use calls::PassAnswer;
+use calls::PlanAnswer;
+use calls::VerticesAnswer;
+use reading::Refusal;
+use sets::ArticleSet;
+
+// An answer: two words, and the status 0.
+fn answered(out: &mut [u64; 2], a: u64, b: u64) -> u32
+    ensures { λ r. ⌜ (r ≡ 0) × (now (out .exit) ≡ a ∷ b ∷ []) ⌝ }
+{
+    *out = [a, b];
+    0
+}
+
+// A refusal: its place, and its number as the status.
+fn refused(out: &mut [u64; 2], refusal: Refusal) -> u32
+    ensures { λ r. ⌜ (r ≡ numberOf (refusal .reason)) × (now (out .exit) ≡ refusal .place ∷ 0 ∷ []) ⌝ }
+{
+    *out = [refusal.place as u64, 0];
+    let reason = refusal.reason;
+    reading::number(reason)
+}
+
+// ---- choice files
+
+#[no_mangle]
+pub extern "C" fn kitchen_partition(file: &[u8], groups: &mut [u8], out: &mut [u64; 2]) -> u32
+    ensures { λ r. ⌜ record { status = r; words = now (out .exit) } ≡ returned nothing (partitionOf (now (file .entry)) (now (groups .entry)) .answer) ⌝ }
+    ensures { λ r. ⌜ now (groups .exit) ≡ partitionOf (now (file .entry)) (now (groups .entry)) .buffer ⌝ }
+{
+    let answer = calls::partition(file, groups);
+    match answer {
+        PartitionAnswer::Done => answered(out, 0, 0),
+        PartitionAnswer::Refused(refusal) => refused(out, refusal),
+    }
+}
+
+#[no_mangle]
+pub extern "C" fn kitchen_pass(
+    file: &[u8],
+    groups: &[u8],
+    live: u64,
+    goal: u64,
+    out: &mut [u64; 2],
+) -> u32
+    ensures { λ r. ⌜ record { status = r; words = now (out .exit) } ≡ returned alone (passOf (now (file .entry)) (now (groups .entry)) live goal) ⌝ }
+{
+    let answer = calls::pass(file, groups, ArticleSet { bits: live }, goal);
+    match answer {
+        PassAnswer::Live(s) => answered(out, s.bits, 0),
+        PassAnswer::Refused(refusal) => refused(out, refusal),
+    }
+}
+
+#[no_mangle]
+pub extern "C" fn kitchen_choose(
+    file: &[u8],
+    groups: &[u8],
+    goals: &[u64],
+    floor: u64,
+    out: &mut [u64; 2],
+) -> u32
+    ensures { λ r. ⌜ record { status = r; words = now (out .exit) } ≡ returned both (chooseOf (now (file .entry)) (now (groups .entry)) (now (goals .entry)) floor) ⌝ }
+{
+    let answer = calls::choose(file, groups, goals, floor);
+    match answer {
+        ChoiceAnswer::Chosen(s, aside) => answered(out, s.bits, aside.bits),
+        ChoiceAnswer::Refused(refusal) => refused(out, refusal),
+    }
+}
+
+// ---- fitting files
+
+#[no_mangle]
+pub extern "C" fn kitchen_fact_layer(
+    file: &[u8],
+    layer: u64,
+    mutexes: &mut [u32],
+    out: &mut [u64; 2],
+) -> u32
+    ensures { λ r. ⌜ record { status = r; words = now (out .exit) } ≡ returned alone (factLayerOf (now (file .entry)) layer (now (mutexes .entry)) .answer) ⌝ }
+    ensures { λ r. ⌜ now (mutexes .exit) ≡ factLayerOf (now (file .entry)) layer (now (mutexes .entry)) .buffer ⌝ }
+{
+    let answer = calls::fact_layer(file, layer as usize, mutexes);
+    match answer {
+        FactsAnswer::Facts(s) => answered(out, s as u64, 0),
+        FactsAnswer::Refused(refusal) => refused(out, refusal),
+    }
+}
+
+#[no_mangle]
+pub extern "C" fn kitchen_round_layer(
+    file: &[u8],
+    layer: u64,
+    mutexes: &mut [u64],
+    out: &mut [u64; 2],
+) -> u32
+    ensures { λ r. ⌜ record { status = r; words = now (out .exit) } ≡ returned alone (roundLayerOf (now (file .entry)) layer (now (mutexes .entry)) .answer) ⌝ }
+    ensures { λ r. ⌜ now (mutexes .exit) ≡ roundLayerOf (now (file .entry)) layer (now (mutexes .entry)) .buffer ⌝ }
+{
+    let answer = calls::round_layer(file, layer as usize, mutexes);
+    match answer {
+        VerticesAnswer::Vertices(s) => answered(out, s, 0),
+        VerticesAnswer::Refused(refusal) => refused(out, refusal),
+    }
+}
+
+#[no_mangle]
+pub extern "C" fn kitchen_plan(file: &[u8], rounds: &mut [u32], out: &mut [u64; 2]) -> u32
+    ensures { λ r. ⌜ record { status = r; words = now (out .exit) } ≡ returned alone (planOf (now (file .entry)) (now (rounds .entry))) ⌝ }
+    ensures { λ r. ⌜ Buffer (readJob fittings (now (file .entry))) (now (rounds .entry)) (now (rounds .exit)) (planOf (now (file .entry)) (now (rounds .entry))) ⌝ }
+{
+    let answer = calls::plan(file, rounds);
+    match answer {
+        PlanAnswer::Rounds(k) => answered(out, k as u64, 0),
+        PlanAnswer::Refused(refusal) => refused(out, refusal),
+    }
+}
+
+// ---- names and comparison
+
+// Where a name stands in the file, by its start and its length.
+#[no_mangle]
+pub extern "C" fn kitchen_name(file: &[u8], number: u64, out: &mut [u64; 2]) -> u32
+    ensures { λ r. ⌜ record { status = r; words = now (out .exit) } ≡ spotted (spotIn (read spots either (now (file .entry))) number) ⌝ }
+{
+    let spot = jobfile::spot(file, number as usize);
+    answered(out, spot.start as u64, spot.len as u64)
+}
+
+#[no_mangle]
+pub extern "C" fn kitchen_find(file: &[u8], name: &[u8], out: &mut [u64; 2]) -> u32
+    ensures { λ r. ⌜ record { status = r; words = now (out .exit) } ≡ returned alone (findOf (now (file .entry)) (now (name .entry))) ⌝ }
+{
+    let answer = calls::find(file, name);
+    match answer {
+        FindAnswer::Number(i) => answered(out, i as u64, 0),
+        FindAnswer::Refused(refusal) => refused(out, refusal),
+    }
+}
+
+#[no_mangle]
+pub extern "C" fn kitchen_compare(first: &[u8], second: &[u8], out: &mut [u64; 2]) -> u32
+    ensures { λ r. ⌜ record { status = r; words = now (out .exit) } ≡ returned test (compareOf (now (first .entry)) (now (second .entry))) ⌝ }
+{
+    let answer = calls::compare(first, second);
+    match answer {
+        CompareAnswer::Alike => answered(out, 1, 0),
+        CompareAnswer::Unlike => answered(out, 0, 0),
+        CompareAnswer::Refused(refusal) => refused(out, refusal),
+    }
+}
