@@ -101,7 +101,8 @@ SAME = {
     "quoted": 'choice\nwishes: "a,\\"", "b"\norder: b\narticle "X"\nwishes: "a,\\x22"\narticle "\\x59"\nwishes: b\nclashes: "X"',
     "comments": "# A\n\n choice # it is\nwishes: a, b #\norder: b\narticle X\n#x\nwishes: a\narticle Y # \"\n#\nwishes: b\nclashes: X",
     "over lines": "choice\nwishes: a,\n\n # more\n  b\norder: b\narticle X\nwishes: a\narticle Y\nwishes:b\nclashes  :  X",
-    "other line ends": KITCHEN.replace("\n", "\r\n"),
+    "line ends of Windows": KITCHEN.replace("\n", "\r\n"),
+    "line ends of old": KITCHEN.replace("\n", "\r"),
     "byte order mark": "\ufeff" + KITCHEN,
     "tabs": KITCHEN.replace(" ", "\t").replace("article\t", "article \t"),
 }
@@ -129,8 +130,7 @@ def texts_in_order():
         equal(job.written(text.encode()), file, f"the same job, {label}")
     for text, form in CANONICAL.items():
         equal(text_of(job.written(text.encode())).decode(), form, f"the form of {text!r}")
-    example = re.search(r"for example:\n\n(.*?)\n\nWith", job.USAGE, re.S)[1]
-    check(len(job.written(example.encode())) > 11, "the example of the usage")
+    check(len(job.written(job.EXAMPLE.encode())) > 11, "the example of the help")
 
 
 # ---- texts with faults
@@ -150,8 +150,12 @@ FAULTY = [
     (CHOICE + "choice\n", [(4, "expected in the first line only")]),
     (CHOICE + "fitting\n", [(4, 'expected "wishes:", "order:" or "article"')]),
     (CHOICE + "step X\n", [(4, 'expected "wishes:", "order:" or "article"')]),
-    (CHOICE + "article: X\n", [(4, 'expected "wishes:", "order:" or "article"')]),
-    (CHOICE + "article X\nWishes: a\n", [(5, 'expected "wishes:", "clashes:" or "article"')]),
+    (CHOICE + "article: X\n wishes: a\n", [(4, 'expected "article" in small letters and without a colon')]),
+    (CHOICE + "Article X\n wishes: a\n", [(4, 'expected "article" in small letters')]),
+    (CHOICE + "article X\nWishes: a\n", [(5, 'expected "wishes:" in small letters and with a colon')]),
+    (CHOICE + "article X\nwishes c\n", [(5, 'expected "wishes:" in small letters and with a colon'), (5, "no wish is named")]),
+    (CHOICE + "article X\nwish: a\n", [(5, 'expected "wishes:", "clashes:" or "article"')]),
+    (FITTING.replace("horizon:", "Horizon"), [(2, 'expected "horizon:" in small letters and with a colon')]),
     (FITTING + "article X\n", [(6, 'expected "horizon:", "facts:", "start:", "goal:" or "step"')]),
     (FITTING + "step X\nwishes: a\n", [(7, 'expected "needs:", "gives:", "takes:" or "step"')]),
     ("choice\nwishes: a\narticle X\n", [(1, '"order:" is missing')]),
@@ -174,6 +178,7 @@ FAULTY = [
     (CHOICE + "article X\nwishes: c\n", [(5, 'no wish is named "c"; expected the name of one, or #0 to #1')]),
     (FITTING + "step X\nneeds: c\n", [(7, 'no fact is named "c"')]),
     ("choice\nwishes: corner larder\norder: corner lader\n", [(3, 'or #0 (near: "corner larder")')]),
+    ("choice\nwishes: oak\norder: OAK\n", [(3, 'or #0 (near: "oak")')]),
     ("choice\nwishes:\norder: a\n", [(3, "expected the name of one, or none, as there is no wish")]),
     (CHOICE + "article X\nwishes: #2\n", [(5, "there is no wish #2; expected #0 to #1")]),
     (CHOICE + "article X\nwishes: #x\n", [(5, "there is no wish #x")]),
@@ -204,8 +209,8 @@ FAULTY = [
     (CHOICE + 'article "X\\n"\n', [(4, "a backslash stands alone")]),
     (CHOICE + 'article "\\xG0"\n', [(4, "a backslash stands alone")]),
     (CHOICE + "article #3\n", [(4, "#3 is no name")]),
-    (CHOICE + "article X\tY\n", [(4, 'expected the name as "X\\x09Y"')]),
-    (CHOICE + "article X\u00a0Y\n", [(4, 'expected the name as "X\\xC2\\xA0Y"')]),
+    (CHOICE + "article X\tY\n", [(4, 'expected the name without it, or as "X\\x09Y"')]),
+    (CHOICE + "article X\u00a0Y\n", [(4, 'expected the name without it, or as "X\\xC2\\xA0Y"')]),
     (CHOICE + "article\n" * 66, [(68, "too many articles; expected at most 64")]),
     (FITTING + "step\n" * 33, [(38, "too many steps; expected at most 32")]),
     ("choice\norder:\nwishes: " + ", ".join(map(str, range(65))), [(3, "too many wishes; expected at most 64")]),
@@ -217,17 +222,22 @@ FAULTY = [
 ]
 
 
+def faults_of(text):
+    """The faults that are found in a text."""
+    try:
+        job.written(text.encode())
+        return []
+    except job.Faulty as faulty:
+        return faulty.faults
+
+
 def texts_with_faults(folder):
     for text, expected in FAULTY:
-        label = f"faults of {text[:200]!r}"
-        try:
-            job.written(text.encode())
-            check(False, f"{label}: none found")
-        except job.Faulty as faulty:
-            equal([line for line, _ in faulty.faults], [line for line, _ in expected], label + f" {faulty.faults}")
-            for (_, message), (_, phrase) in zip(faulty.faults, expected):
-                check(phrase in message, f"{label}: {phrase!r} is not in {message!r}")
-                check("expected" in message, f"{label}: {message!r} does not say what was expected")
+        label, faults = f"faults of {text[:200]!r}", faults_of(text)
+        equal([line for line, _ in faults], [line for line, _ in expected], label + f" {faults}")
+        for (_, message), (_, phrase) in zip(faults, expected):
+            check(phrase in message, f"{label}: {phrase!r} is not in {message!r}")
+            check("expected" in message, f"{label}: {message!r} does not say what was expected")
     path, target = folder / "faulty.txt", folder / "faulty.job"
     path.write_text(CHOICE + "article X\n  wishes: c\n  clashes: X\n")
     status, output, errors = run("write", path, "-o", target)
@@ -238,6 +248,12 @@ def texts_with_faults(folder):
     path.write_bytes(b"choice\nwishes: K\xfcche\norder:\n")
     status, output, errors = run("write", path)
     check(status == 1 and f"{path}:2: the line is not in UTF-8" in errors, f"a text in Latin-1: {errors}")
+    path.write_bytes(b"\x1b[31m\0\n" + b"\x07junk " * 100 + b"\n" * 2 + b"nonsense\n" * 50)
+    status, output, errors = run("write", path)
+    check(status == 1 and all(line.isprintable() and len(line) < 300 for line in errors.splitlines()), f"junk: {errors!r}")
+    check("further faults are not shown" in errors and len(errors.splitlines()) < 50, f"junk in few lines: {errors}")
+    long = CHOICE + "article X\nwishes: a" + " " * 10**6 + "b\n"
+    check(b"no wish" in job.fault_report("", long.encode(), faults_of(long)).encode(), "a line of a million blanks")
 
 
 # ---- job files
@@ -489,10 +505,26 @@ def sentences(folder):
 
 
 def usage(folder):
-    for arguments in ((), ("--help",)):
-        equal(run(*arguments), (0, job.USAGE.encode(), ""), f"usage by {arguments}")
+    for arguments in ((), ("--help",), ("-h",)):
+        equal(run(*arguments), (0, job.HELP.encode(), ""), f"help by {arguments}")
     for arguments in (("bogus",), ("write",), ("write", "a", "b"), ("write", "a", "-o"), ("read",), ("show", "a", "b"), ("tell",)):
-        equal(run(*arguments), (2, b"", job.USAGE), f"usage by {arguments}")
+        status, output, errors = run(*arguments)
+        check((status, output) == (2, b"") and errors.endswith("\n" + job.USAGE), f"usage by {arguments}: {errors}")
+        check("expected one " in errors or "there is no command bogus" in errors, f"what is wrong with {arguments}: {errors}")
+    text = folder / "text.txt"
+    text.write_text(KITCHEN)
+    status, _, errors = run("write", text, "-o", text)
+    check(status == 1 and "is the text itself" in errors and text.read_text() == KITCHEN, f"a text is not overwritten: {errors}")
+    for arguments, stream, phrase in (
+        (("write", text), ">&-", "standard output: Bad file descriptor"),
+        (("--help",), ">&-", "standard output: Bad file descriptor"),
+        (("tell", folder / "A.job"), "<&-", "standard input is closed"),
+        (("write", folder), "", "Is a directory"),
+    ):
+        command = ["sh", "-c", f'"$0" "$@" {stream}', TOOL, *arguments]
+        done = subprocess.run(command, capture_output=True, text=True)
+        equal((done.returncode, done.stderr.count("\n")), (1, 1), f"{arguments} {stream}: {done.stderr}")
+        check(phrase in done.stderr, f"{arguments} {stream}: {done.stderr}")
     status, output, errors = run("write", ROOT / "jobs" / "A.txt", "-o", folder / "no folder" / "a.job")
     check(status == 1 and not output and "No such file or directory" in errors, errors)
     check(TOOL.stat().st_mode & 0o111, "tools/job can be executed")
