@@ -2,58 +2,50 @@
 """Runs the program that it is given on many files, and compares what it prints with docs/RULES.md, by readers and
 searches of its own.
 
+    kitchen.py PROGRAM
+
 It shares nothing with crates/. Which of the shortest plans is printed is free: a plan is tried, and its count compared.
 The last line says how many files of each outcome were compared; a difference is printed, and ends it with status 1.
 """
 
+import random
 import subprocess
 import sys
 from collections import Counter
 
 from calls import B, NOTHING
+from drawn import drawn_choice, drawn_fitting, over_limits, small_choices, small_fittings, walk, wide_choice
 from layers import G, H
-from plans import fewest, like_f, row
-from reader import BASES, FITTING, Article, Choice, Refused, written
-from rules import is_plan, offer, read, shown
+from plans import like_f, row
+from reader import BASES, CHOICE, FITTING, Article, Choice, Refused, counts, written
+from rules import is_plan, offer, plan, shown
 
 # what 64 articles, 64 wishes and names of 32 bytes come to
 LONGEST = written(Choice(64, set(range(64)), [Article(set(range(64)), set(range(i)), b"n" * 32) for i in range(64)]))
 
 
-def plan_fault(file, printed):
-    """Why the printed text is not that of a shortest plan; None if it is."""
-    job = read(file, (FITTING,))
-    count = fewest(job)
-    if count is None:
-        raise Refused(15, 0)
-    lines = printed.splitlines(keepends=True)
-    if not lines or lines[0] != f"rounds {count}\n":
-        return f"the fewest rounds are {count}"
-    rounds = []
-    for number, line in enumerate(lines[1:], 1):
-        head, _, steps = line.partition(":")
-        rounds.append([int(step) for step in steps.split()])
-        if line != f"{number}:{shown(rounds[-1])}\n":
-            return f"line {number + 1} has another form"
-    if len(rounds) != count or not is_plan(job, rounds):
-        return "the rounds are no plan"
-    return None
+def plan_text(file, printed):
+    """The text of a shortest plan: the printed one if that is one, and else its first line."""
+    job, count = plan(file, 16)
+    rounds = [[int(step) for step in line.partition(":")[2].split() if step.isdigit()] for line in printed.splitlines()[1:]]
+    text = f"rounds {count}\n" + "".join(f"{k}:{shown(round)}\n" for k, round in enumerate(rounds, 1))
+    good = len(rounds) == count and is_plan(job, rounds)
+    return f"plans of {count}", text if good else f"rounds {count}\n..."
 
 
-def compared(file, printed):
-    """The outcome's name and the difference, None if there is none. The file is the first 4,096 bytes."""
+def expected(file, printed):
+    """The name of the outcome, and the text. The file is the first 4,096 bytes."""
     file = file[:4096]
     try:
-        if file[:1] == bytes([FITTING]):
-            return "planned", plan_fault(file, printed)
-        expected, name = offer(file), "chosen"
+        return plan_text(file, printed) if file[:1] == bytes([FITTING]) else ("chosen", offer(file))
     except Refused as fault:
-        expected, name = f"refused {fault.reason} at {fault.place}\n", f"refused {fault.reason}"
-    return name, None if printed == expected else f"expected {expected!r}"
+        return f"refused {fault.reason}", f"refused {fault.reason} at {fault.place}\n"
 
 
 def files():
-    """The examples, whole, cut, lengthened and with each byte changed in two ways; jobs at the edges; long input."""
+    """The examples, whole, cut, lengthened and with each byte changed in two ways; jobs at the edges; long input; all small
+    files of a sort, and drawn ones."""
+    yield "n 65", bytes([CHOICE, 65, 0]) + bytes(8)
     bases = {**BASES, "B": B, "G": written(G), "no order": NOTHING}
     for label, file in bases.items():
         yield label, file
@@ -71,18 +63,33 @@ def files():
     yield "the longest file cut", LONGEST[:-1]
     yield "4,097 bytes", LONGEST + bytes(4097 - len(LONGEST))
     yield "longer input", b"\x43" + bytes(100_000)
+    draw = random.Random(20261115)
+    lists = {
+        "over a limit": over_limits(),
+        "small choice": small_choices(),
+        "small fitting": small_fittings(),
+        "drawn choice": (written(drawn_choice(draw)) for _ in range(300)),
+        "wide choice": (written(wide_choice(draw)) for _ in range(20)),
+        "drawn fitting": (written(drawn_fitting(draw)) for _ in range(300)),
+        "walk": (written(walk(draw, draw.randrange(2, 12), draw.randrange(17))) for _ in range(300)),
+        "wide walk": (written(walk(draw, 32, 16)) for _ in range(40)),
+    }
+    for label, drawn in lists.items():
+        for number, file in enumerate(drawn):
+            yield f"{label} {number}, {file.hex()}", file
 
 
 def main():
     tally = Counter()
     for label, file in files():
         run = subprocess.run([sys.argv[1]], input=file, capture_output=True)
-        name, fault = compared(file, run.stdout.decode("latin-1"))
-        if run.returncode or run.stderr or fault:
-            print(f"{label}: {fault}; printed {run.stdout!r}, status {run.returncode}")
+        printed = run.stdout.decode("latin-1")
+        name, text = expected(file, printed)
+        if run.returncode or run.stderr or printed != text:
+            print(f"{label}: expected {text!r}, printed {printed!r}, status {run.returncode}")
             return 1
         tally[name] += 1
-    print(", ".join(f"{name}: {count}" for name, count in sorted(tally.items())))
+    print(counts(tally))
     return 0
 
 

@@ -1,6 +1,7 @@
 """The C interface of ours, through ctypes: each call with its arguments as Python has them.
 
-It is no program. A call returns its status, the two words of `out`, and the buffer afterwards where one was lent.
+It is no program. An argument is a number; bytes, for a slice of bytes; or a pair of a width and a list, for a slice of
+numbers of that many bytes. An empty slice has a null pointer.
 """
 
 import ctypes
@@ -8,23 +9,33 @@ import ctypes
 SIZES = {1: ctypes.c_uint8, 4: ctypes.c_uint32, 8: ctypes.c_uint64}
 
 
+def items(argument):
+    """What a slice holds."""
+    return list(argument if isinstance(argument, bytes) else argument[1])
+
+
+def slices(arguments):
+    return [items(argument) for argument in arguments if not isinstance(argument, int)]
+
+
 class Library:
     def __init__(self, path):
         self.library = ctypes.CDLL(str(path))
 
     def call(self, name, *arguments):
-        """Bytes are a slice of bytes, a pair of a width and a list a slice of numbers of that many bytes, and a number a number."""
-        passed, lent = [], None
+        """The status, the two words of `out`, and what each slice holds afterwards."""
+        passed, arrays = [], []
         for argument in arguments:
             if isinstance(argument, int):
                 passed.append(ctypes.c_uint64(argument))
                 continue
-            width, items = (1, argument) if isinstance(argument, bytes) else argument
-            array = (SIZES[width] * len(items))(*items)
-            passed += [array if items else None, ctypes.c_size_t(len(items))]
-            lent = array
+            held = items(argument)
+            width = 1 if isinstance(argument, bytes) else argument[0]
+            array = (SIZES[width] * len(held))(*held)
+            passed += [array if held else None, ctypes.c_size_t(len(held))]
+            arrays.append(array)
         out = (ctypes.c_uint64 * 2)(*[2**64 - 1] * 2)
         function = getattr(self.library, f"kitchen_{name}")
         function.restype = ctypes.c_uint32
         status = function(*passed, out)
-        return status, tuple(out), list(lent) if lent is not None else []
+        return status, tuple(out), [list(array) for array in arrays]

@@ -178,3 +178,9 @@ def outcome(action, *arguments):
         return action(*arguments)
     except Refused as fault:
         return f"refused {fault.reason} at {fault.place}"
+
+
+def counts(tally):
+    """What was counted, in a line; `refused 2` before `refused 10`."""
+    order = lambda pair: [word.rjust(3) if word.isdigit() else word for word in pair[0].split()]
+    return ", ".join(f"{what}: {count}" for what, count in sorted(tally.items(), key=order))

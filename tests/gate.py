@@ -11,6 +11,7 @@ import re
 import resource
 import subprocess
 import sys
+import time
 
 ROOT = pathlib.Path(".")
 # A refusal that only says that the proof file no longer has the code's shape: it shows nothing about the contract.
@@ -165,15 +166,26 @@ def second_program():
     return compared
 
 
+def run(command, status=0):
+    """What a command prints; it has to end with this status."""
+    done = subprocess.run(command, stdin=subprocess.DEVNULL, capture_output=True, text=True)
+    demand(done.returncode == status, f"{' '.join(command)} ended with status {done.returncode}: {(done.stdout + done.stderr).strip()[-2000:]}")
+    return done.stdout
+
+
+def counted(printed, wanted):
+    """The counts in a line of `what: count, ..`, which is printed; all that is wanted is among them."""
+    print(printed.strip(), flush=True)
+    counts = {name.strip(): int(count) for name, count in re.findall(r"([a-z0-9 ]+): (\d+)", printed)}
+    missing = [name for name in wanted if not counts.get(name)]
+    demand(not missing, "nothing was compared of: " + ", ".join(missing))
+    return counts
+
+
 def kitchen_prints():
     """What kitchen prints of many files, good, damaged and cut, is what reference/kitchen.py says; every outcome is among them."""
-    run = subprocess.run([sys.executable, "-B", "reference/kitchen.py", "target/bin/kitchen"], stdin=subprocess.DEVNULL, capture_output=True, text=True)
-    demand(run.returncode == 0, "reference/kitchen.py: " + (run.stdout + run.stderr).strip())
-    counts = {name.strip(): int(count) for name, count in re.findall(r"([a-z0-9 ]+): (\d+)", run.stdout)}
-    outcomes = ["chosen", "planned", *(f"refused {n}" for n in (1, 2, 3, 4, 5, 6, 7, 8, 14, 15))]
-    missing = [name for name in outcomes if not counts.get(name)]
-    demand(not missing, "no file came out as " + ", ".join(missing))
-    return sum(counts.values())
+    wanted = ["chosen", *(f"plans of {n}" for n in range(6)), *(f"refused {n}" for n in (1, 2, 3, 4, 5, 6, 7, 8, 14, 15))]
+    return sum(counted(run([sys.executable, "-B", "reference/kitchen.py", "target/bin/kitchen"]), wanted).values())
 
 
 @functools.cache
@@ -183,13 +195,6 @@ def built_library():
     archive, shared = "target/staticlib/libcapi.a", "target/libkitchen.so"
     run(["cc", "-shared", "-o", shared, "-Wl,--whole-archive", archive, "-Wl,--no-whole-archive"])
     return archive, shared
-
-
-def run(command, status=0):
-    """What a command prints; it has to end with this status."""
-    done = subprocess.run(command, stdin=subprocess.DEVNULL, capture_output=True, text=True)
-    demand(done.returncode == status, f"{' '.join(command)} ended with status {done.returncode}: {(done.stdout + done.stderr).strip()[-2000:]}")
-    return done.stdout
 
 
 def header():
@@ -219,15 +224,17 @@ def hosts():
 
 
 def beside():
-    """The second program beside ours through the C interface: at least 20,000 comparisons, and every sort of them."""
-    printed = run([sys.executable, "-B", "reference/beside.py", built_library()[1]])
-    print(printed.strip(), flush=True)
-    counts = {name.strip(): int(count) for name, count in re.findall(r"([a-z0-9 ]+): (\d+)", printed)}
-    wanted = [f"refused {n}" for n in range(1, 17)] + [f"plans of {n}" for n in range(4)]
-    wanted += ["passes that struck", "floors that mattered", "choices that set aside", "layers with mutexes", "names given", "alike"]
-    missing = [name for name in wanted if not counts.get(name)]
-    demand(not missing, "nothing was compared of: " + ", ".join(missing))
+    """The second program beside ours through the C interface: at least 20,000 comparisons within three minutes, and every sort of them."""
+    shared = built_library()[1]
+    before = time.monotonic()
+    printed = run([sys.executable, "-B", "reference/beside.py", shared])
+    seconds = time.monotonic() - before
+    wanted = [f"refused {n}" for n in range(1, 17)] + [f"plans of {n}" for n in range(6)] + ["plans with step 31"]
+    wanted += ["passes that struck", "floors that mattered", "choices that set aside", "answers with bit 63", "layers with mutexes"]
+    wanted += ["names given", "names found", "alike though not the same", "null slices"]
+    counts = counted(printed, wanted)
     demand(counts["comparisons"] >= 20_000, f"only {counts['comparisons']} comparisons")
+    demand(seconds < 180, f"the comparisons took {seconds:.0f} seconds")
     return counts["comparisons"]
 
 
@@ -235,7 +242,8 @@ def faults():
     """Each mistake that the second program makes on purpose is found."""
     for fault in range(1, 7):
         printed = run([sys.executable, "-B", "reference/beside.py", built_library()[1], "--fault", str(fault)], status=1)
-        demand("comparisons: " in printed, f"fault {fault}: {printed}")
+        demand(re.search(r"^the second program .*; after \d+ comparisons: ", printed), f"fault {fault}: {printed}")
+        print(f"fault {fault}: {printed[:printed.index(': ')]}", flush=True)
     return 6
 
 

@@ -1,0 +1,81 @@
+"""Files to compare on: drawn, all small ones of a sort, damaged, over their limits.
+
+It is no program, and shares nothing with crates/. A draw is a random.Random of a fixed seed.
+"""
+
+from itertools import product
+
+from reader import CHOICE, FITTING, Article, Choice, Fitting, Step, written
+
+
+def some(draw, bound, chance):
+    return {i for i in range(bound) if draw.random() < chance}
+
+
+def drawn_name(draw):
+    return draw.choice([b"", b"", b"a", b"b", b"ab", b"n" * 32, bytes([draw.randrange(256)])])
+
+
+def drawn_choice(draw):
+    n, w = draw.randrange(7), draw.randrange(6)
+    wish, clash = draw.choice([0.2, 0.4, 0.6]), draw.choice([0.1, 0.3, 0.7])
+    articles = [Article(some(draw, w, wish), some(draw, i, clash), drawn_name(draw)) for i in range(n)]
+    return Choice(w, some(draw, w, draw.choice([0.3, 0.7, 1])), articles)
+
+
+def wide_choice(draw):
+    """64 articles and 64 wishes, at the edge of the words. There are three sorts of articles, and two of one sort clash; so
+    do many others, so that there are few sets to try."""
+    sorts = [draw.randrange(3) for _ in range(64)]
+    clashes = [{j for j in range(i) if sorts[j] == sorts[i] or draw.random() < 0.5} for i in range(64)]
+    articles = [Article(some(draw, 64, draw.choice([0.1, 0.5])), clashes[i], drawn_name(draw)) for i in range(64)]
+    return Choice(64, {63, *draw.sample(range(63), 4)}, articles)
+
+
+def drawn_fitting(draw):
+    n, facts = draw.randrange(6), draw.randrange(7)
+    needs, gives, takes = draw.choice([(0.3, 0.4, 0.3), (0.3, 0.2, 0.1), (0.2, 0.2, 0.3)])
+    steps = [Step(*(some(draw, facts, chance) for chance in (needs, gives, takes)), drawn_name(draw)) for _ in range(n)]
+    return Fitting(facts, draw.randrange(7), some(draw, facts, 0.2), some(draw, facts, draw.choice([0.3, 0.6])), steps)
+
+
+def walk(draw, n, horizon):
+    """Two start at two of n places; each step leads one of them on to a place not far behind, and some need the other to be
+    where it started. It takes many rounds."""
+    place = draw.sample(range(n), n)
+    steps = []
+    for i in range(n):
+        here, there = place[i], place[(i + 1 + draw.randrange(3)) % n]
+        steps.append(Step({here, draw.choice([here] * 9 + [place[0]])}, {there}, {here}, drawn_name(draw)))
+    draw.shuffle(steps)
+    return Fitting(n, horizon, {place[0], place[1]}, {place[-1], draw.choice([place[-1], *place])}, steps)
+
+
+def small_choices():
+    """All choice files of two articles and two wishes without names."""
+    subsets = [set(), {0}, {1}, {0, 1}]
+    for order, first, second, clash in product(subsets, subsets, subsets, (set(), {0})):
+        yield written(Choice(2, order, [Article(first, set(), b""), Article(second, clash, b"")]))
+
+
+def small_fittings():
+    """All fitting files of one fact and two steps, with horizons 0 to 2."""
+    subsets = [set(), {0}]
+    for horizon, start, goal, *sets in product(range(3), subsets, subsets, *[subsets] * 6):
+        yield written(Fitting(1, horizon, start, goal, [Step(*sets[:3], b""), Step(*sets[3:], b"")]))
+
+
+def damaged(file, draw):
+    """Every truncation; each byte with a bit changed and as another byte; bytes behind the end."""
+    for n in range(len(file)):
+        yield file[:n]
+        for byte in (file[n] ^ 1 << draw.randrange(8), draw.randrange(256), 255):
+            yield file[:n] + bytes([byte]) + file[n + 1 :]
+    yield file + b"\0"
+    yield file + file
+
+
+def over_limits():
+    for head in ([CHOICE, 65, 0], [CHOICE, 64, 65], [FITTING, 33, 0, 0], [FITTING, 32, 33, 0], [FITTING, 0, 32, 17]):
+        yield bytes(head)
+        yield bytes(head) + bytes(200)
