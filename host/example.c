@@ -1,6 +1,9 @@
 /* Loads job files, chooses or plans, and prints the answer with the names of the articles or steps.
  *
- *     cc -I include host/example.c target/staticlib/libcapi.a -o example && ./example JOB...
+ *     rt staticlib capi
+ *     cc -I include host/example.c target/staticlib/libcapi.a -o target/example
+ *     tools/job write jobs/kitchen.txt -o target/kitchen.job
+ *     target/example target/kitchen.job
  */
 #include <inttypes.h>
 #include <stdio.h>
@@ -67,6 +70,10 @@ static int plan(const uint8_t *file, size_t len)
 int main(int count, char **paths)
 {
     int status = 0;
+    if (count < 2) {
+        fprintf(stderr, "usage: example JOB...\n");
+        return 2;
+    }
     for (int i = 1; i < count; i++) {
         uint8_t file[LONGEST];
         FILE *stream = fopen(paths[i], "rb");

@@ -3,7 +3,8 @@
 
     rt staticlib capi
     cc -shared -o target/libkitchen.so -Wl,--whole-archive target/staticlib/libcapi.a -Wl,--no-whole-archive
-    host/example.py target/libkitchen.so JOB...
+    tools/job write jobs/kitchen.txt -o target/kitchen.job
+    host/example.py target/libkitchen.so target/kitchen.job
 """
 
 import ctypes
@@ -56,10 +57,15 @@ class Kitchen:
 
 
 def main():
+    if len(sys.argv) < 3:
+        sys.exit("usage: example.py LIBRARY JOB...")
     kitchen = Kitchen(sys.argv[1])
     status = 0
     for path in sys.argv[2:]:
-        file = pathlib.Path(path).read_bytes()
+        try:
+            file = pathlib.Path(path).read_bytes()
+        except OSError as trouble:
+            sys.exit(f"{path}: {trouble.strerror}")
         try:
             lines = kitchen.plan(file) if file[:1] == bytes([FITTING]) else kitchen.choose(file)
         except Refused as fault:

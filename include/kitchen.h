@@ -1,12 +1,53 @@
 /* Choice and fitting for cabinet shops: the open calls, for C and for all that can call C.
  *
- * Build the archive with `rt staticlib capi`: target/staticlib/libcapi.a. docs/RULES.md says how a job file
- * is laid out and what each call answers; every function here is proved to answer just that, for every input.
+ * docs/RULES.md says how a job file is laid out and what each call answers; every function here is proved to
+ * answer just that, for every input. `tools/job write` makes a job file from a text. The library is built by
+ *
+ *     rt staticlib capi
+ *     cc -shared -o target/libkitchen.so -Wl,--whole-archive target/staticlib/libcapi.a -Wl,--no-whole-archive
+ *
+ * of which the second line is for languages that load a library. A program in C that chooses, from a job file on
+ * standard input, is built by `cc -I include first.c target/staticlib/libcapi.a -o first` and is tried by
+ * `tools/job write jobs/kitchen.txt | ./first`:
+ *
+ *     #include "kitchen.h"
+ *     #include <stdio.h>
+ *     int main(void)
+ *     {
+ *         uint8_t file[4096], groups[64];
+ *         uint64_t out[2];
+ *         size_t len = fread(file, 1, sizeof file, stdin);
+ *         uint32_t reason = kitchen_partition(file, len, groups, 64, out);
+ *         if (reason == 0)
+ *             reason = kitchen_choose(file, len, groups, 64, NULL, 0, 0, out);
+ *         for (int i = 0; reason == 0 && i < 64; i++)
+ *             if (out[0] >> i & 1)
+ *                 printf("article %d\n", i);
+ *         if (reason)
+ *             printf("refused %u at %u\n", (unsigned)reason, (unsigned)out[0]);
+ *         return reason != 0;
+ *     }
+ *
+ * The same in Python, by `tools/job write jobs/kitchen.txt | python3 first.py`:
+ *
+ *     import ctypes, sys
+ *     library, size, number = ctypes.CDLL("target/libkitchen.so"), ctypes.c_size_t, ctypes.c_uint64
+ *     file, groups, out = sys.stdin.buffer.read(), (ctypes.c_uint8 * 64)(), (number * 2)()
+ *     reason = library.kitchen_partition(file, size(len(file)), groups, size(64), out)
+ *     if reason == 0:
+ *         reason = library.kitchen_choose(file, size(len(file)), groups, size(64), None, size(0), number(0), out)
+ *     if reason == 0:
+ *         print(*(f"article {i}\n" for i in range(64) if out[0] >> i & 1), sep="", end="")
+ *     else:
+ *         print(f"refused {reason} at {out[0]}")
+ *     sys.exit(reason != 0)
+ *
+ * host/ has longer examples, with names and plans.
  *
  * Each function returns 0 for an answer, and otherwise the number of the reason why it was turned down
- * (docs/RULES.md, "Reasons to turn a call down"). It always writes both words of `out`: the values of the
- * answer, named beside each function, or the place of the refusal and 0; unused words are 0. `out` is the
- * return value and no lent buffer: reason 10 never speaks of it.
+ * (docs/RULES.md, "Reasons to turn a call down"; `tools/job explain` puts it into words). It always writes both
+ * words of `out`: the values of the answer, named beside each function, or the place of the refusal and 0; unused
+ * words are 0. `out` is the return value and no lent buffer: reason 10 never speaks of it.
  *
  * A slice is a pointer and a length, in elements. The pointer of an empty slice may be null. Buffers must not
  * overlap each other, the file or `out`. A refusal writes to no buffer; elements behind those that an answer
@@ -16,6 +57,7 @@
 #ifndef KITCHEN_H
 #define KITCHEN_H
 
+/* Goes up whenever something below changes. */
 #define KITCHEN_VERSION 1
 
 #include <stddef.h>

@@ -198,13 +198,30 @@ def built_library():
 
 
 def header():
-    """include/kitchen.h declares the functions of capi, each once, and no others; and it is plain C and C++."""
-    declared = re.findall(r"^uint32_t (kitchen_\w+)\(", (ROOT / "include" / "kitchen.h").read_text(), re.M)
+    """include/kitchen.h declares the functions of capi, each once, and no others; it is plain C; and the programs in it run."""
+    text = (ROOT / "include" / "kitchen.h").read_text()
+    declared = re.findall(r"^uint32_t (kitchen_\w+)\(", text, re.M)
     exported = re.findall(r'pub extern "C" fn (\w+)\(', (ROOT / "crates" / "capi" / "src" / "lib.rt").read_text())
     demand(sorted(declared) == sorted(exported) and len(set(declared)) == 9, f"the header declares {declared}, capi exports {exported}")
-    run(["cc", "-std=c99", "-Wall", "-Wextra", "-Werror", "-fsyntax-only", "-x", "c", "include/kitchen.h"])
-    run(["cc", "-Wall", "-Wextra", "-Werror", "-fsyntax-only", "-x", "c++", "include/kitchen.h"])
-    return len(declared)
+    demand(re.search(r"^#define KITCHEN_VERSION [1-9][0-9]*$", text, re.M), "the header has no version")
+    strict = ["cc", "-std=c99", "-Wall", "-Wextra", "-Werror", "-I", "include"]
+    run([*strict, "-fsyntax-only", "-x", "c", "include/kitchen.h"])
+    as_cpp = ["cc", "-fsyntax-only", "-Wall", "-Wextra", "-Werror", "-x", "c++"]
+    if subprocess.run([*as_cpp, "/dev/null"], capture_output=True).returncode == 0:  # only C is asked of a compiler
+        run([*as_cpp, "include/kitchen.h"])
+    archive, _ = built_library()
+    shown = re.findall(r"(?:^ \*     .*\n)+", text, re.M)
+    demand(len(shown) == 3, "the header shows how to build, a program in C, and one in Python")
+    for name, program in zip(("first.c", "first.py"), shown[1:]):
+        (ROOT / "target" / name).write_text(re.sub(r"^ \*     ", "", program, flags=re.M))
+    run([*strict, "target/first.c", archive, "-o", "target/first"])
+    run(["tools/job", "write", "jobs/A.txt", "-o", "target/A.job"])
+    for program in ("target/first", f"{sys.executable} -B target/first.py"):
+        printed = run(["sh", "-c", f"{program} < target/A.job"])
+        demand(printed == "article 2\n", f"{program} of the header prints of A: {printed}")
+        printed = run(["sh", "-c", f"{program} < /dev/null"], status=1)
+        demand(printed == "refused 1 at 0\n", f"{program} of the header prints of an empty file: {printed}")
+    return len(declared) + 2
 
 
 def hosts():
