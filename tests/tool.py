@@ -143,6 +143,7 @@ FAULTY = [
     ("# nothing\n\n", [(1, 'expected "choice" or "fitting"')]),
     ("kitchen\nwishes:\norder:\n", [(1, 'expected "choice" or "fitting"')]),
     ("Choice\nwishes:\norder:\n", [(1, 'expected "choice" or "fitting"')]),
+    ("Fitting\n" + FITTING[8:].replace("horizon", "Horizon"), [(1, 'expected "choice" or "fitting"'), (2, 'expected "horizon:"')]),
     ("choice 2\nwishes:\norder:\n", [(1, 'expected "choice" or "fitting"')]),
     ("\nwishes:\norder:\n", [(2, 'expected "choice" or "fitting"')]),
     ("article X\n", [(1, '"choice" or "fitting"'), (1, '"wishes:" is missing'), (1, '"order:" is missing')]),
