@@ -59,7 +59,6 @@ class Beside:
         lent = slices(arguments)
         self.tally["comparisons"] += 1
         self.tally["null slices"] += lent.count([])
-        self.tally["answers with bit 63"] += any(word >> 63 for word in expected[1])
         ours = self.ours.call(call, *arguments)
         theirs = (*expected, lent if buffer is None else lent[:-1] + [buffer])
         if ours != theirs:
@@ -82,6 +81,8 @@ class Beside:
         if found:
             self.tally["floors that mattered"] += floor > 0 and found != rules.choose(file, groups, lists, 0)
             self.tally["choices that set aside"] += bool(found[1])
+            self.tally["choices of article 63"] += 63 in found[0]
+            self.tally["choices that set article 63 aside"] += 63 in found[1]
         self.same("choose", (file, (1, groups), (8, goals), floor), expected)
 
     def layer(self, file, sort, k, count):
@@ -165,12 +166,12 @@ class Beside:
         self.names(file, [step.name for step in job.steps], draw)
 
     def layers(self, file, job, draw):
-        for k in sorted({0, 1, job.horizon // 2, job.horizon, job.horizon + 1, FULL}):
+        for k in sorted({0, 1, job.horizon // 2, job.horizon, job.horizon + 1, 2**32, FULL}):
             self.layer(file, "fact", k, draw.choice([32, 33, 32, 31]))
             self.layer(file, "round", k, draw.choice([64, 65, 64, 63]))
 
     def names(self, file, names, draw):
-        for at in (0, max(0, len(names) - 1), len(names), FULL):
+        for at in (0, max(0, len(names) - 1), len(names), 2**32, FULL):
             self.name(file, at)
         for wanted in (draw.choice([b"", *names]), drawn_name(draw), b"n" * 33):
             self.find(file, wanted)
@@ -204,10 +205,10 @@ def run(beside):
         beside.fitting(file, draw)
     for _ in range(400):
         beside.fitting(written(walk(draw, draw.randrange(2, 12), draw.randrange(17))), draw)
-    for _ in range(12):
+    for _ in range(20):
         beside.choice(written(wide_choice(draw)), draw)
         beside.fitting(written(walk(draw, 32, 16)), draw)
-    for _ in range(80):
+    for _ in range(300):
         beside.plan(written(walk(draw, 32, 16)), 16)
     beside.layers(written(full_fitting()), full_fitting(), draw)
     for file in over_limits():

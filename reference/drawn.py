@@ -24,12 +24,13 @@ def drawn_choice(draw):
 
 
 def wide_choice(draw):
-    """64 articles and 64 wishes, at the edge of the words. There are three sorts of articles, and two of one sort clash; so
-    do many others, so that there are few sets to try."""
-    sorts = [draw.randrange(3) for _ in range(64)]
-    clashes = [{j for j in range(i) if sorts[j] == sorts[i] or draw.random() < 0.5} for i in range(64)]
-    articles = [Article(some(draw, 64, draw.choice([0.1, 0.5])), clashes[i], drawn_name(draw)) for i in range(64)]
-    return Choice(64, {63, *draw.sample(range(63), 4)}, articles)
+    """64 articles and 64 wishes, at the edge of the words. There are two or three sorts of articles, and two of one sort
+    clash; where there are three sorts many others do, too, so that there are few sets to try."""
+    sorts, further, ordered = draw.choice([(2, 0, 10), (3, 0.5, 5)])
+    sort = [draw.randrange(sorts) for _ in range(64)]
+    clashes = [{j for j in range(i) if sort[j] == sort[i] or draw.random() < further} for i in range(64)]
+    articles = [Article(some(draw, 64, draw.choice([0, 0.4, 0.5])), clashes[i], drawn_name(draw)) for i in range(64)]
+    return Choice(64, {63, *draw.sample(range(63), ordered - 1)}, articles)
 
 
 def drawn_fitting(draw):
@@ -45,7 +46,7 @@ def walk(draw, n, horizon):
     place = draw.sample(range(n), n)
     steps = []
     for i in range(n):
-        here, there = place[i], place[(i + 1 + draw.randrange(3)) % n]
+        here, there = place[i], place[(i + 1 + draw.randrange(4)) % n]
         steps.append(Step({here, draw.choice([here] * 9 + [place[0]])}, {there}, {here}, drawn_name(draw)))
     draw.shuffle(steps)
     return Fitting(n, horizon, {place[0], place[1]}, {place[-1], draw.choice([place[-1], *place])}, steps)

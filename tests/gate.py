@@ -247,7 +247,8 @@ def beside():
     printed = run([sys.executable, "-B", "reference/beside.py", shared])
     seconds = time.monotonic() - before
     wanted = [f"refused {n}" for n in range(1, 17)] + [f"plans of {n}" for n in range(6)] + ["plans with step 31"]
-    wanted += ["passes that struck", "floors that mattered", "choices that set aside", "answers with bit 63", "layers with mutexes"]
+    wanted += ["passes that struck", "floors that mattered", "choices that set aside", "layers with mutexes"]
+    wanted += ["choices of article 63", "choices that set article 63 aside"]
     wanted += ["names given", "names found", "alike though not the same", "null slices"]
     counts = counted(printed, wanted)
     demand(counts["comparisons"] >= 20_000, f"only {counts['comparisons']} comparisons")
