@@ -52,7 +52,8 @@
  * A slice is a pointer and a length, in elements. The pointer of an empty slice may be null. Buffers must not
  * overlap each other, the file or `out`. A refusal writes to no buffer; elements behind those that an answer
  * fills keep what they held. Sets are numbers by their bits: bit i stands for member i. Nothing here allocates,
- * blocks, or keeps a pointer; calls may run in several threads at once.
+ * blocks, or keeps a pointer; calls may run in several threads at once. A thread that plans should have a stack of
+ * 1 MB, within which the gate runs the planner.
  */
 #ifndef KITCHEN_H
 #define KITCHEN_H
