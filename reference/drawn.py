@@ -36,7 +36,10 @@ def wide_choice(draw):
 def drawn_fitting(draw):
     n, facts = draw.randrange(6), draw.randrange(7)
     needs, gives, takes = draw.choice([(0.3, 0.4, 0.3), (0.3, 0.2, 0.1), (0.2, 0.2, 0.3)])
-    steps = [Step(*(some(draw, facts, chance) for chance in (needs, gives, takes)), drawn_name(draw)) for _ in range(n)]
+    steps = []
+    for _ in range(n):
+        sets = [some(draw, facts, chance) for chance in (needs, gives, takes)]
+        steps.append(Step(*sets, drawn_name(draw)))
     return Fitting(facts, draw.randrange(7), some(draw, facts, 0.2), some(draw, facts, draw.choice([0.3, 0.6])), steps)
 
 

@@ -103,7 +103,8 @@ class Reader:
 
     def step(self, facts):
         marks = self.marks(4)
-        return Step(*(self.field(marked, 4, facts) for marked in marks[:3]), self.name(marks[3]))
+        needs, gives, takes = [self.field(marked, 4, facts) for marked in marks[:3]]
+        return Step(needs, gives, takes, self.name(marks[3]))
 
     def choice(self):
         n, w = self.count(64), self.count(64)
@@ -111,7 +112,8 @@ class Reader:
 
     def fitting(self):
         n, facts, horizon = self.count(32), self.count(32), self.count(16)
-        start, goal = (self.set(4, facts, may_be_empty=True) for _ in range(2))
+        start = self.set(4, facts, may_be_empty=True)
+        goal = self.set(4, facts, may_be_empty=True)
         return Fitting(facts, horizon, start, goal, [self.step(facts) for _ in range(n)])
 
     def job(self, kinds):
