@@ -10,7 +10,7 @@ ghost use Rattle.network.specs.Groups.{Partition};
 ghost use Rattle.network.specs.Filter.{passes, GoalsWithin};
 ghost use Rattle.tables.specs.Tables.{Tabled};
 ghost use Rattle.choice.specs.Choice.{smallest, chosen, unaided, offered};
-ghost use Rattle.choice.specs.Search.{foundBy};
+ghost use Rattle.choice.specs.Search.{foundBy, isSome};
 
 mod find;
 mod least;
@@ -55,6 +55,24 @@ pub fn smallest(
         0,
         false,
     )
+}
+
+// Whether there is any such set, without a floor.
+pub fn coverable(
+    wishes: &[u64; 64],
+    clashes: &[u64; 64],
+    carriers: &[u64; 64],
+    allowed: u64,
+    need: u64,
+) -> bool
+    requires { ⌜ Tabled 64 (now wishes) (now clashes) (now carriers) ⌝ }
+    ensures { λ r. ⌜ r ≡ isSome (smallest (listed 64 (now (wishes .entry)) (now (clashes .entry))) allowed need 0) ⌝ }
+{
+    let found = find::find(wishes, clashes, carriers, allowed, need);
+    match found {
+        Found::Set(_x) => true,
+        Found::Nothing => false,
+    }
 }
 
 // Goal i of the list.

@@ -1,7 +1,7 @@
 // Sets in one word of 64 bits. What a function asks of its caller is proved at each call; nothing
 // is tested or refused at run time.
 ghost use mathlib.Core.Path.{_≡_};
-ghost use Prim.Native.Nat.{_≤_, _<_, _^_};
+ghost use Prim.Native.Nat.{suc, _≤_, _<_, _^_};
 ghost use lib.Bits.{bitOr};
 ghost use lib.ListN.{getD};
 ghost use Rattle.sets.specs.Ranges.{given};
@@ -83,6 +83,14 @@ pub fn lowest(s: u64) -> usize
     ensures { λ r. ⌜ r < 64 ⌝ }
 {
     u64::trailing_zeros(s) as usize
+}
+
+// The highest member of s, which has one.
+pub fn highest(s: u64) -> usize
+    requires { ⌜ (s ≡ 0 → ⊥) ⌝ }
+    ensures { λ r. ⌜ (r < 64) × (2 ^ r ≤ s) × (s < 2 ^ suc r) ⌝ }
+{
+    63 - (u64::leading_zeros(s) as usize)
 }
 
 // s less its lowest member, which it has.
