@@ -19,7 +19,7 @@ use Rattle.tables.proofs.TableLaws.{Filled}
 use Rattle.choice.specs.declared.Found.{Found}
 use Rattle.choice.specs.declared.Found.the-variants as Found
 use Rattle.choice.specs.Choice.{Cover, smallest}
-use Rattle.choice.specs.Search.{foundBy, Finds}
+use Rattle.choice.specs.Search.{foundBy, isSome, Finds}
 use Rattle.choice.proofs.ChoiceLaws.{smallest-right}
 use Rattle.questions.specs.Questions.{rowOf, Opens, Uncovered}
 
@@ -124,6 +124,14 @@ asked N allowed need h e =
     go : (a : Option ℕ) → Smallest (Cover N allowed need) 0 a → Finds N allowed need (foundBy a)
     go (some x) s = s .holds
     go none s = λ y c. s y c zero-le
+
+-- where the test says that there is none, there is none
+pub coverable-none : (N : Network) (allowed need : ℕ) → allowed < 2 ^ N .articles → false ≡ isSome (smallest N allowed need 0) → (x : ℕ) → Cover N allowed need x → ⊥
+coverable-none N allowed need h e = go (smallest N allowed need 0) (smallest-right N allowed need 0 h) e
+  where
+    go : (a : Option ℕ) → Smallest (Cover N allowed need) 0 a → false ≡ isSome a → (x : ℕ) → Cover N allowed need x → ⊥
+    go (some y) s q x c = absurd (true≢false (sym q))
+    go none s q x c = s x c zero-le
 
 pub asked-none : (N : Network) (allowed need : ℕ) {r : Found} → allowed < 2 ^ N .articles → r ≡ foundBy (smallest N allowed need 0) → r ≡ Found.Nothing
     → (x : ℕ) → Cover N allowed need x → ⊥

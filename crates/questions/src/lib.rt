@@ -69,24 +69,22 @@ pub fn ask(
 fn fewer(
     gives: &[u64; 64],
     carriers: &[u64; 64],
-    words: &[u64],
-    j: usize,
+    mutex: &[u64; 64],
     allowed: u64,
     facts: u64,
     why: u64,
     e: u64,
     b: usize,
 ) -> u64
-    requires { ⌜ (j < 16) × (64 * j + 64 ≤ length (now words)) × Tabled 64 (now gives) (rowOf (now words) j) (now carriers) ⌝ }
-    requires { ⌜ (b < 64) × (bit why b ≡ 0) × Uncovered (now gives) (rowOf (now words) j) allowed facts why e ⌝ }
-    ensures { λ r. ⌜ Uncovered (now (gives .entry)) (rowOf (now (words .entry)) j) allowed facts why r ⌝ }
+    requires { ⌜ Tabled 64 (now gives) (now mutex) (now carriers) ⌝ }
+    requires { ⌜ (b < 64) × (bit why b ≡ 0) × Uncovered (now gives) (now mutex) allowed facts why e ⌝ }
+    ensures { λ r. ⌜ Uncovered (now (gives .entry)) (now (mutex .entry)) allowed facts why r ⌝ }
 {
     let less = word::less(e, b);
-    let picked = ask(gives, carriers, words, j, allowed, less);
-    match picked {
-        Found::Set(_x) => e,
-        Found::Nothing => less,
+    if choice::coverable(gives, mutex, carriers, allowed, less) {
+        return e;
     }
+    less
 }
 
 // Of the facts, which no selection covers, a part with those of why that none covers: the others are
@@ -104,11 +102,12 @@ pub fn explain(
     requires { ⌜ (why ⊆ facts) × ((x : ℕ) → Cover (listed 64 (now gives) (rowOf (now words) j)) allowed facts x → ⊥) ⌝ }
     ensures { λ r. ⌜ Uncovered (now (gives .entry)) (rowOf (now (words .entry)) j) allowed facts why r ⌝ }
 {
+    let mutex = row(words, j);
     let mut e = facts;
     let mut left = word::without(facts, why);
     while left != 0 {
         let b = word::lowest(left);
-        e = fewer(gives, carriers, words, j, allowed, facts, why, e, b);
+        e = fewer(gives, carriers, &mutex, allowed, facts, why, e, b);
         left = word::rest(left);
     }
     e
