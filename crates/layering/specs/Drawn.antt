@@ -1,13 +1,12 @@
 -- What the code's types mean.
 use mathlib.Core.Path.{_≡_}
-use mathlib.Core.Bool.{Bool, not, _&&_, _||_, cond}
+use mathlib.Core.Bool.{Bool, cond}
 use mathlib.Core.List.{List, []}
 use Prim.Native.Nat.{ℕ, _-_, _^_}
 use lib.Bits.{bitOr}
 use lib.Dec.{ltb}
 use lib.ListN.{getD}
-use Rattle.sets.specs.Ranges.{given, everyTo, listTo}
-use Rattle.sets.specs.Sets.{member, part, meets}
+use Rattle.sets.specs.Ranges.{given, listTo}
 use Rattle.jobfile.specs.declared.ReadFitting.{ReadFitting}
 use Rattle.jobfile.specs.Answers.{padded}
 use Rattle.tables.specs.Tables.{transposed}
@@ -40,8 +39,3 @@ pub record Turned (needs gives takes users takers needers : List ℕ) : Type 0 w
 abbrev pub fittingIn : ReadFitting → Fitting
 fittingIn job =
     record { count = job .steps; facts = job .facts; steps = listedSteps (job .needs) (job .gives) (job .takes); start = job .start; goal = job .goal; horizon = job .horizon }
-
--- two facts are mutex, by the vertices that give each and the mutex words of these
-abbrev pub excluding : List ℕ → List ℕ → ℕ → ℕ → Bool
-excluding givers words p q =
-    everyTo 64 (λ x. not (member (getD givers p 0) x) || part (getD givers q 0) (getD words x 0)) && not (meets (getD givers p 0) (getD givers q 0))
