@@ -1,57 +1,65 @@
--- A fact layer as the code computes it: by the givers of each fact, and those that are mutex with all of them. Assumes nothing.
+-- A fact layer as the code computes it: by the givers of each fact, those that are mutex with all of them, and what all others give. Assumes
+-- nothing.
 use mathlib.Core.Path.{_≡_, refl, sym, ap, ap₂, _∙_}
-use mathlib.Core.Logic.{_≢_}
-use mathlib.Core.Bool.{Bool, true, false, not, _&&_, _||_, and-false, Bool·not-not}
+use mathlib.Core.Logic.{_⊎_, inl, inr, _≢_}
+use mathlib.Core.Bool.{Bool, true, false, not, _&&_, _||_}
 use mathlib.Core.List.{List, []}
-use Prim.Native.Nat.{ℕ, _+_, _^_, _<_}
+use Prim.Native.Nat.{ℕ, _+_, _-_, _^_, _<_, min, max}
 use native.Mathlib.Decide.{decLt, ℕ-discrete}
 use native.Mathlib.Omega.{arith}
-use lib.Bits.{bitAnd, bitOr}
+use lib.Bits.{bitAnd, bitOr, and-le-r}
 use lib.Dec.{eqb}
 use lib.ListN.{getD, set, replicate, length-set, length-replicate, getD-replicate}
 use lib.Seq.{getD-set-same, getD-set-other, ext-getD}
-use borrow.Author.Tests.{eq-eqb, ne-eqb}
-use Rattle.sets.specs.Ranges.{given, everyTo, listTo}
+use borrow.Author.Tests.{not-false}
+use Rattle.sets.specs.Ranges.{num, everyTo, listTo}
 use Rattle.sets.specs.Sets.{bit, _∈_, _⊆_, member, without, part, meets, full, setOf, gathered, lowest}
-use Rattle.sets.proofs.Ranges.{same-true, every-at, at-every, list-length, list-at, list-past, list-cong}
-use Rattle.sets.proofs.Bits.{ext, bit-le, bit-empty, bit-and, member-yes, yes-member, member-no, part-in, in-part, part-yes, yes-part, part-full, member-below, in-less, less-in}
-use Rattle.sets.proofs.Made.{set-below, set-in, in-set, set-cong, set-turn}
+use Rattle.sets.proofs.Ranges.{same-true, same-false, num-le, num-both, every-at, at-every, list-length, list-at, list-past}
+use Rattle.sets.proofs.Bits.{ext, bit-le, bit-cases, bit-empty, bit-and, bit-or, bit-without, bit-full, full-below, member-yes, yes-member, num-member, part-in, in-part, part-yes, yes-part, part-full, member-below, without-in, in-without, without-le, meets-no, no-meets, in-less, less-in}
+use Rattle.sets.proofs.Made.{set-below, set-bit, set-in, in-set}
 use Rattle.sets.proofs.Lowest.{lowest-below, lowest-member}
 use Rattle.jobfile.specs.Answers.{padded}
 use Rattle.tables.specs.Tables.{transposed}
+use Rattle.tables.proofs.TableLaws.{turned-at}
 use Rattle.graph.specs.Rounds.{Steps, listedSteps}
-use Rattle.graph.specs.Layers.{mutexWith, Layer, mutexes, givers, excluded, givenBy, factsOver}
-use Rattle.layering.specs.Drawn.{layer, roomy, excluding}
+use Rattle.graph.specs.Layers.{mutexWith, mutexes, givers, excluded, givenBy, factsOver}
+use Rattle.layering.specs.Drawn.{layer, roomy}
+use Rattle.layering.proofs.SetCode.{member-bit, set-by-bits, bit-less, gathered-meets}
 
 -- ---- the givers of each fact
 
-member-given : (t : Bool) (s i : ℕ) → member (given t s) i ≡ (t && member s i)
-member-given true s i = refl
-member-given false s i = member-no 0 i (bit-empty i)
+module _ (w members : ℕ) (gives words : List ℕ) where
+  abbrev giversOf : ℕ → ℕ
+  giversOf = givers w (listedSteps [] gives []) (layer members words)
 
--- what the members give, turned round
-pub givers-turned : (w members : ℕ) (gives rows : List ℕ) → rows ≡ listTo (w + w) (λ x. given (member members x) (getD gives x 0))
-    → transposed (w + w) rows ≡ listTo (w + w) (givers w (listedSteps [] gives []) (layer members []))
-unfolding transposed givers
-givers-turned w members gives rows e =
-    ap (transposed (w + w)) e
-    ∙ list-cong (w + w) (λ p. setOf (w + w) (λ x. member (getD (listTo (w + w) kept) x 0) p)) (givers w (listedSteps [] gives []) (layer members []))
-    (λ p l. set-cong (w + w) (λ x. member (getD (listTo (w + w) kept) x 0) p) (λ x. member members x && member (getD gives x 0) p)
-    (λ x k. ap (λ (s : ℕ). member s p) (list-at (w + w) kept 0 x k) ∙ member-given (member members x) (getD gives x 0) p))
-  where
-    kept : ℕ → ℕ
-    kept x = given (member members x) (getD gives x 0)
+  giver-num : (p x : ℕ) → num (member members x && member (getD gives x 0) p) ≡ min (bit members x) (bit (getD gives x 0) p)
+  giver-num p x = num-both (member members x) (member (getD gives x 0) p) ∙ ap₂ min (num-member members x) (num-member (getD gives x 0) p)
 
--- each of these sets fits a word
-pub givers-fit : (w : ℕ) (S : Steps) (R : Layer) (gs : List ℕ) → gs ≡ listTo (w + w) (givers w S R) → (i : ℕ) → i < w + w → getD gs i 0 < 2 ^ (w + w)
-unfolding givers
-givers-fit w S R gs e i l =
-    omega (
-      arith,
-      ap (λ (t : List ℕ). getD t i 0) e,
-      list-at (w + w) (givers w S R) 0 i l,
-      set-below (w + w) (λ x. member (R .members) x && member (S .gives x) i),
-    )
+  giver-bit : (p x : ℕ) → x < w + w → bit (giversOf p) x ≡ min (bit members x) (bit (getD gives x 0) p)
+  unfolding givers
+  giver-bit p x l = set-bit (w + w) (λ x. member members x && member (getD gives x 0) p) x l ∙ giver-num p x
+
+  givers-below : (p : ℕ) → giversOf p < 2 ^ (w + w)
+  unfolding givers
+  givers-below p = set-below (w + w) (λ x. member members x && member (getD gives x 0) p)
+
+  givers-in : (p : ℕ) → giversOf p ⊆ members
+  givers-in p = in-part (giversOf p) members (λ x e. omega (arith, giver-bit p x (member-below (giversOf p) (w + w) x (givers-below p) e), bit-le members x))
+
+  -- made from the table turned round
+  pub givers-made : (turned : List ℕ) (p : ℕ) → members < 2 ^ (w + w) → p < w + w → turned ≡ transposed (w + w) gives → bitAnd (getD turned p 0) members ≡ giversOf p
+  unfolding givers
+  givers-made turned p h lp e =
+      set-by-bits (w + w) (bitAnd (getD turned p 0) members) (λ x. member members x && member (getD gives x 0) p)
+      (omega (arith, and-le-r (getD turned p 0) members))
+      (λ x l. bit-and (getD turned p 0) members x ∙ omega (arith, ap (λ (t : List ℕ). bit (getD t p 0) x) e, turned-at (w + w) gives p x lp l, giver-num p x))
+
+  -- what members of the layer give
+  given-meets : (s q : ℕ) → s ⊆ members → q < w + w → member (gathered (w + w) s (λ x. getD gives x 0)) q ≡ meets s (giversOf q)
+  given-meets s q h lq =
+      gathered-meets (w + w) s (giversOf q) q (λ x. getD gives x 0)
+      (λ x l e. omega (arith, giver-bit q x l, h x, bit-le members x, bit-le (getD gives x 0) q))
+      (λ x e g. member-below (giversOf q) (w + w) x (givers-below q) g)
 
 -- ---- every member of a set
 
@@ -148,45 +156,71 @@ module _ (n : ℕ) (row : ℕ → ℕ) where
 
 -- ---- the facts that one is mutex with
 
--- a bit that was read and is not 0
-pub bit-there : (s i b : ℕ) → b ≡ bit s i → b ≢ 0 → member s i ≡ true
-bit-there s i b e d = member-yes s i (omega (arith, bit-le s i))
+-- a part of m that has members outside a, by what a leaves of m
+outside : (m a g : ℕ) → g ⊆ m → meets (without m a) g ≡ not (part g a)
+outside m a g h = same-false (meets (without m a) g) (not (part g a)) there back
+  where
+    there : meets (without m a) g ≡ false → not (part g a) ≡ false
+    there z = ap not (part-yes g a (in-part g a (λ i e. go i e (bit-cases a i))))
+      where
+        go : (i : ℕ) → i ∈ g → (bit a i ≡ 0) ⊎ (i ∈ a) → i ∈ a
+        go i e (inl o) = absurd (no-meets (without m a) g z i (without-in m a i (part-in g m h i e) o) e)
+        go i e (inr k) = k
 
--- whether q stands and is mutex with p, by what is mutex with all givers of p
-abbrev pub apart : List ℕ → ℕ → ℕ → ℕ → ℕ → Bool
-apart gs against facts p q = member facts q && (not (eqb p q) && (part (getD gs q 0) against && not (meets (getD gs p 0) (getD gs q 0))))
+    back : not (part g a) ≡ false → meets (without m a) g ≡ false
+    back z = meets-no (without m a) g (λ i e k. omega (arith, in-without m a i e .1, yes-part g a (not-false (part g a) z) i))
 
--- the tests of the code, each with what it decides; w is what `against` lacks of the givers of q
-module _ (gs : List ℕ) (against facts p q : ℕ) where
-  pub apart-absent : member facts q ≡ false → false ≡ apart gs against facts p q
-  apart-absent e = rw e
+-- a bit of the row: a fact, another one, whose givers are all against p, and none of them gives both
+row-bit : (f e o s : Bool) → min (num f - num e) 1 - max (num (not o)) (num s) ≡ num (f && (not e && (o && not s)))
+row-bit false e o s = omega arith
+row-bit true true o s = omega arith
+row-bit true false false s = omega (arith, num-le s)
+row-bit true false true true = omega arith
+row-bit true false true false = omega arith
 
-  pub apart-same : p ≡ q → false ≡ apart gs against facts p q
-  apart-same e = rw (eq-eqb p q e) (sym (and-false (member facts q)))
+-- The row of p as the code makes it. Of the others it leaves out what vertices give that are not mutex with all givers of p, and what the givers
+-- of p give.
+pub row-made : (w members facts p others givers against free loose shared : ℕ) (gives words : List ℕ) → p < w + w
+    → others ≡ without facts (2 ^ p)
+    → givers ≡ giversOf w members gives words p
+    → against ≡ inAll (w + w) givers (λ x. getD words x 0)
+    → free ≡ without members against
+    → loose ≡ gathered (w + w) free (λ x. getD gives x 0)
+    → shared ≡ gathered (w + w) givers (λ x. getD gives x 0)
+    → without (bitAnd others (full w)) (bitOr loose shared) ≡ setOf w (mutexWith facts (excluded w (listedSteps [] gives []) (layer members words)) p)
+unfolding excluded
+row-made w members facts p others givers against free loose shared gives words lp eo eg ea ef en es =
+    set-by-bits w made (mutexWith facts (excluded w (listedSteps [] gives []) (layer members words)) p) below each
+  where
+    made : ℕ
+    made = without (bitAnd others (full w)) (bitOr loose shared)
 
-  pub apart-outside : (w : ℕ) → member facts q ≡ true → p ≢ q → w ≡ without (getD gs q 0) against → w ≢ 0 → false ≡ apart gs against facts p q
-  unfolding part
-  apart-outside w m d e h = rw (m, ne-eqb p q d, ne-eqb (without (getD gs q 0) against) 0 (λ z. h (e ∙ z)))
+    G : ℕ → ℕ
+    G = giversOf w members gives words
 
-  pub apart-last : (w : ℕ) → member facts q ≡ true → p ≢ q → w ≡ without (getD gs q 0) against → w ≡ 0
-      → eqb (bitAnd (getD gs p 0) (getD gs q 0)) 0 ≡ apart gs against facts p q
-  unfolding part meets
-  apart-last w m d e z = rw (m, ne-eqb p q d, eq-eqb (without (getD gs q 0) against) 0 (sym e ∙ z)) (sym (Bool·not-not (eqb (bitAnd (getD gs p 0) (getD gs q 0)) 0)))
+    below : made < 2 ^ w
+    below = omega (arith, without-le (bitAnd others (full w)) (bitOr loose shared), and-le-r others (full w), full-below w)
 
--- the same by the mutex words of the vertices
-module _ (gs ws : List ℕ) (facts p : ℕ) where
-  apart-mutex : (against q : ℕ) → against ≡ inAll 64 (getD gs p 0) (λ x. getD ws x 0) → getD gs q 0 < 2 ^ 64
-      → apart gs against facts p q ≡ mutexWith facts (excluding gs ws) p q
-  apart-mutex against q e h =
-      ap (λ (b : Bool). member facts q && (not (eqb p q) && (b && not (meets (getD gs p 0) (getD gs q 0)))))
-      (ap (part (getD gs q 0)) e ∙ all-part 64 (λ x. getD ws x 0) (getD gs p 0) (getD gs q 0) h)
+    loosely : (q : ℕ) → q < w → member loose q ≡ not (everyTo (w + w) (λ x. not (member (G p) x) || part (G q) (getD words x 0)))
+    loosely q l =
+        ap (λ (s : ℕ). member s q) (en ∙ ap (λ (s : ℕ). gathered (w + w) s (λ x. getD gives x 0)) ef)
+        ∙ given-meets w members gives words (without members against) q (λ x. omega (arith, bit-without members against x)) (omega arith)
+        ∙ outside members against (G q) (givers-in w members gives words q)
+        ∙ ap (λ (s : ℕ). not (part (G q) s)) (ea ∙ ap (λ (s : ℕ). inAll (w + w) s (λ x. getD words x 0)) eg)
+        ∙ ap not (all-part (w + w) (λ x. getD words x 0) (G p) (G q) (givers-below w members gives words q))
 
-  -- one turn of a loop over the facts q
-  pub row-turn : (against s q r : ℕ) (passed : Bool) → against ≡ inAll 64 (getD gs p 0) (λ x. getD ws x 0) → getD gs q 0 < 2 ^ 64
-      → s ≡ setOf q (mutexWith facts (excluding gs ws) p) → passed ≡ apart gs against facts p q → r ≡ bitOr s (given passed (2 ^ q))
-      → r ≡ setOf (q + 1) (mutexWith facts (excluding gs ws) p)
-  row-turn against s q r passed ea h es ep e =
-      e ∙ ap₂ (λ (x : ℕ) (b : Bool). bitOr x (given b (2 ^ q))) es (ep ∙ apart-mutex against q ea h) ∙ sym (set-turn q (mutexWith facts (excluding gs ws) p))
+    both : (q : ℕ) → q < w → member shared q ≡ meets (G p) (G q)
+    both q l =
+        ap (λ (s : ℕ). member s q) (es ∙ ap (λ (s : ℕ). gathered (w + w) s (λ x. getD gives x 0)) eg)
+        ∙ given-meets w members gives words (G p) q (givers-in w members gives words p) (omega arith)
+
+    each : (q : ℕ) → q < w → bit made q ≡ num (mutexWith facts (excluded w (listedSteps [] gives []) (layer members words)) p q)
+    each q l =
+        bit-without (bitAnd others (full w)) (bitOr loose shared) q
+        ∙ ap₂ _-_
+        (bit-and others (full w) q ∙ ap₂ min (ap (λ (s : ℕ). bit s q) eo ∙ bit-less facts p q) (bit-full w q l))
+        (bit-or loose shared q ∙ ap₂ max (member-bit loose q (loosely q l)) (member-bit shared q (both q l)))
+        ∙ row-bit (member facts q) (eqb p q) (everyTo (w + w) (λ x. not (member (G p) x) || part (G q) (getD words x 0))) (meets (G p) (G q))
 
 -- ---- a loop that fills the first words of an array
 
@@ -221,31 +255,9 @@ padded-turn w f l p x h el ex =
 
 -- ---- the fact layer
 
-pub mutexes-cong : (n m : ℕ) (test other : ℕ → ℕ → Bool) → ((p q : ℕ) → p < n → q < n → test p q ≡ other p q) → mutexes n m test ≡ mutexes n m other
-unfolding mutexes
-mutexes-cong n m test other h =
-    list-cong n (λ p. given (member m p) (row test p)) (λ p. given (member m p) (row other p))
-    (λ p l. ap (given (member m p)) (set-cong n (λ q. member m q && (not (eqb p q) && test p q)) (λ q. member m q && (not (eqb p q) && other p q))
-    (λ q k. ap (λ (b : Bool). member m q && (not (eqb p q) && b)) (h p q l k))))
-  where
-    row : (ℕ → ℕ → Bool) → ℕ → ℕ
-    row t p = setOf n (λ q. member m q && (not (eqb p q) && t p q))
-
--- the givers that the code made are those of the layer
-excluding-same : (S : Steps) (members : ℕ) (gs ws : List ℕ) → gs ≡ listTo 64 (givers 32 S (layer members [])) → (p q : ℕ) → p < 64 → q < 64
-    → excluding gs ws p q ≡ excluded 32 S (layer members ws) p q
-unfolding excluded givers
-excluding-same S members gs ws e p q lp lq = ap₂ (λ (a b : ℕ). everyTo 64 (λ x. not (member a x) || part b (getD ws x 0)) && not (meets a b)) (at p lp) (at q lq)
-  where
-    at : (i : ℕ) → i < 64 → getD gs i 0 ≡ givers 32 S (layer members ws) i
-    at i l = ap (λ (t : List ℕ). getD t i 0) e ∙ list-at 64 (givers 32 S (layer members [])) 0 i l
-
 -- what the code made is the layer
-pub facts-made : (S : Steps) (members made : ℕ) (gs ws words : List ℕ) → made ≡ gathered 64 members (S .gives) → gs ≡ listTo 64 (givers 32 S (layer members []))
-    → words ≡ padded 64 (mutexes 32 made (excluding gs ws)) → layer made words ≡ roomy 64 (factsOver 32 S (layer members ws))
+pub facts-made : (S : Steps) (members made : ℕ) (ws words : List ℕ) → made ≡ gathered 64 members (S .gives)
+    → words ≡ padded 64 (mutexes 32 made (excluded 32 S (layer members ws))) → layer made words ≡ roomy 64 (factsOver 32 S (layer members ws))
 unfolding factsOver givenBy
-facts-made S members made gs ws words eg es ew =
-    ap₂ layer eg
-    (ew ∙ ap (padded 64) (ap (λ (m : ℕ). mutexes 32 m (excluding gs ws)) eg
-    ∙ mutexes-cong 32 (gathered 64 members (S .gives)) (excluding gs ws) (excluded 32 S (layer members ws))
-    (λ p q lp lq. excluding-same S members gs ws es p q (omega arith) (omega arith))))
+facts-made S members made ws words eg ew =
+    ap₂ layer eg (ew ∙ ap (λ (m : ℕ). padded 64 (mutexes 32 m (excluded 32 S (layer members ws)))) eg)

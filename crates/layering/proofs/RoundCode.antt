@@ -1,24 +1,25 @@
--- Round layers as the code makes them: each test one word after the other, each set member by member. There is room for w facts and w
+-- Round layers as the code makes them: the vertices that stand one by one, the mutex words by operations on sets. There is room for w facts and w
 -- steps. Assumes nothing.
 use mathlib.Core.Path.{_≡_, sym, ap, ap₂, _∙_}
 use mathlib.Core.Logic.{_≢_}
 use mathlib.Core.Bool.{Bool, true, false, not, _&&_, _||_, cond, Bool·not-not}
 use mathlib.Core.List.{List, []}
-use Prim.Native.Nat.{ℕ, _+_, _-_, _^_, _≤_, _<_}
+use Prim.Native.Nat.{ℕ, _+_, _-_, _^_, _≤_, _<_, min, max}
 use native.Mathlib.Omega.{arith}
-use lib.Bits.{bitAnd, bitOr, or-zero-l}
+use lib.Bits.{bitAnd, bitOr, or-zero-l, and-le-l}
 use lib.Dec.{eqb}
 use lib.ListN.{getD}
 use lib.Pow.{pow-mono}
 use borrow.Author.Tests.{lt-ltb, le-ltb, eq-eqb, ne-eqb}
-use Rattle.sets.specs.Ranges.{given}
+use Rattle.sets.specs.Ranges.{num, given, listTo}
 use Rattle.sets.specs.Sets.{bit, member, without, part, meets, setOf, gathered}
-use Rattle.sets.proofs.Ranges.{given-yes, given-no}
-use Rattle.sets.proofs.Bits.{bit-le, member-yes, member-no, ext}
+use Rattle.sets.proofs.Ranges.{num-le, given-yes, given-no, list-at}
+use Rattle.sets.proofs.Bits.{bit-le, bit-and, bit-or, member-yes, member-no, meets-turned, without-le, ext}
 use Rattle.sets.proofs.Made.{gathered-part}
 use Rattle.graph.specs.Rounds.{Steps, listedSteps, disturb}
 use Rattle.graph.specs.Layers.{mutexWith, mutexWord, Layer, mutexes, opposed, stands, rivals, standing, roundOver}
-use Rattle.layering.specs.Drawn.{layer, vertexWords}
+use Rattle.layering.specs.Drawn.{layer, vertexWords, uses}
+use Rattle.layering.proofs.SetCode.{member-bit, set-by-bits, bit-less}
 
 -- ---- a table of steps as one of vertices
 
@@ -58,56 +59,42 @@ module _ (w : ℕ) (S : Steps) (L : Layer) (x : ℕ) where
       ∙ sym (Bool·not-not (eqb (bitAnd (opposed w L (S .needs x)) (S .needs x)) 0))
       ∙ sym (ap (λ (t : Bool). t && not (meets (opposed w L (S .needs x)) (S .needs x))) (eq-eqb (without (S .needs x) (L .members)) 0 (sym e ∙ z)))
 
--- ---- whether two vertices disturb each other
+-- ---- the vertices that one is mutex with
 
-module _ (S : Steps) (x y : ℕ) where
-  -- x takes what y needs or gives
-  pub disturb-here : bitAnd (S .takes x) (bitOr (S .needs y) (S .gives y)) ≢ 0 → true ≡ disturb S x y
-  unfolding disturb meets
-  disturb-here d =
-      sym (ap (λ (t : Bool). not t || meets (S .takes y) (bitOr (S .needs x) (S .gives x))) (ne-eqb (bitAnd (S .takes x) (bitOr (S .needs y) (S .gives y))) 0 d))
+-- a bit of the row: a member, another one, and one of three tests passes
+row-bit : (m e a b c : Bool) → min (num m - num e) (max (max (num a) (num b)) (num c)) ≡ num (m && (not e && (a || b || c)))
+row-bit false e a b c = omega arith
+row-bit true true a b c = omega arith
+row-bit true false true b c = omega (arith, num-le b, num-le c)
+row-bit true false false true c = omega (arith, num-le c)
+row-bit true false false false c = omega (arith, num-le c)
 
-  -- it does not: so all depends on what y takes
-  pub disturb-there : bitAnd (S .takes x) (bitOr (S .needs y) (S .gives y)) ≡ 0
-      → not (eqb (bitAnd (S .takes y) (bitOr (S .needs x) (S .gives x))) 0) ≡ disturb S x y
-  unfolding disturb meets
-  disturb-there z =
-      sym (ap (λ (t : Bool). not t || meets (S .takes y) (bitOr (S .needs x) (S .gives x))) (eq-eqb (bitAnd (S .takes x) (bitOr (S .needs y) (S .gives y))) 0 z))
+-- The row of x as the code makes it. Of the others it has those y that need or give what x takes, those that take what x needs or gives, and
+-- those that need what is opposed to x.
+pub row-made : (w n : ℕ) (S : Steps) (L : Layer) (m x others a b c : ℕ) → m < 2 ^ n → others ≡ without m (2 ^ x)
+    → ((y : ℕ) → y < n → member a y ≡ meets (S .takes x) (getD (listTo n (uses S)) y 0))
+    → ((y : ℕ) → y < n → member b y ≡ meets (uses S x) (S .takes y))
+    → ((y : ℕ) → y < n → member c y ≡ meets (opposed w L (S .needs x)) (S .needs y))
+    → bitAnd others (bitOr (bitOr a b) c) ≡ setOf n (mutexWith m (rivals w S L) x)
+unfolding rivals disturb
+row-made w n S L m x others a b c h eo ea eb ec = set-by-bits n made (mutexWith m (rivals w S L) x) below each
+  where
+    made : ℕ
+    made = bitAnd others (bitOr (bitOr a b) c)
 
--- ---- whether y is a member and mutex with x
+    below : made < 2 ^ n
+    below = omega (arith, and-le-l others (bitOr (bitOr a b) c), without-le m (2 ^ x))
 
--- one test after the other: y is a member, another one than x, and they disturb each other, or o has a need of y; o are the facts that are
--- mutex with the needs of x
-module _ (S : Steps) (o m x y : ℕ) where
-  abbrev pub rivalAt : Bool
-  rivalAt = disturb S x y || meets o (S .needs y)
-
-  abbrev pub mutexAt : Bool
-  mutexAt = member m y && (not (eqb x y) && rivalAt)
-
-  pub mutex-absent : (b : ℕ) → b ≡ bit m y → b ≡ 0 → false ≡ mutexAt
-  mutex-absent b e z = sym (ap (λ (t : Bool). t && (not (eqb x y) && rivalAt)) (member-no m y (sym e ∙ z)))
-
-  there : (b : ℕ) → b ≡ bit m y → b ≢ 0 → not (eqb x y) && rivalAt ≡ mutexAt
-  there b e d = sym (ap (λ (t : Bool). t && (not (eqb x y) && rivalAt)) (member-yes m y (omega (arith, bit-le m y))))
-
-  pub mutex-same : (b : ℕ) → b ≡ bit m y → b ≢ 0 → x ≡ y → false ≡ mutexAt
-  mutex-same b e d q = sym (ap (λ (t : Bool). not t && rivalAt) (eq-eqb x y q)) ∙ there b e d
-
-  other : (b : ℕ) → b ≡ bit m y → b ≢ 0 → x ≢ y → rivalAt ≡ mutexAt
-  other b e d n = sym (ap (λ (t : Bool). not t && rivalAt) (ne-eqb x y n)) ∙ there b e d
-
-  pub mutex-disturbed : (b : ℕ) (r : Bool) → b ≡ bit m y → b ≢ 0 → x ≢ y → r ≡ disturb S x y → r ≡ true → true ≡ mutexAt
-  mutex-disturbed b r e d n er t = sym (ap (λ (u : Bool). u || meets o (S .needs y)) (sym er ∙ t)) ∙ other b e d n
-
-  pub mutex-calm : (b : ℕ) (r : Bool) → b ≡ bit m y → b ≢ 0 → x ≢ y → r ≡ disturb S x y → r ≡ false → not (eqb (bitAnd o (S .needs y)) 0) ≡ mutexAt
-  unfolding meets
-  mutex-calm b r e d n er f = sym (ap (λ (u : Bool). u || meets o (S .needs y)) (sym er ∙ f)) ∙ other b e d n
-
-pub mutex-rivals : (w : ℕ) (S : Steps) (L : Layer) (o m x y : ℕ) (t : Bool) → o ≡ opposed w L (S .needs x) → t ≡ mutexAt S o m x y
-    → t ≡ mutexWith m (rivals w S L) x y
-unfolding rivals
-mutex-rivals w S L o m x y t eo e = e ∙ ap (λ (a : ℕ). mutexAt S a m x y) eo
+    each : (y : ℕ) → y < n → bit made y ≡ num (mutexWith m (rivals w S L) x y)
+    each y l =
+        bit-and others (bitOr (bitOr a b) c) y
+        ∙ ap₂ min (ap (λ (s : ℕ). bit s y) eo ∙ bit-less m x y)
+        (bit-or (bitOr a b) c y ∙ ap₂ max
+        (bit-or a b y ∙ ap₂ max
+        (member-bit a y (ea y l ∙ ap (meets (S .takes x)) (list-at n (uses S) 0 y l)))
+        (member-bit b y (eb y l ∙ meets-turned (uses S x) (S .takes y))))
+        (member-bit c y (ec y l)))
+        ∙ row-bit (member m y) (eqb x y) (meets (S .takes x) (uses S y)) (meets (S .takes y) (uses S x)) (meets (opposed w L (S .needs x)) (S .needs y))
 
 -- ---- the sets, and the round layer
 

@@ -63,8 +63,8 @@ pub fn facts_over(gives: &[u64; 64], below: Layer) -> Layer
 {
     let words = below.words;
     let members = word::gather(gives, below.members);
-    let givers = facts::givers(gives, below.members);
-    let mutex = facts::words(&givers, &words, members);
+    let turned = tables::transposed(gives);
+    let mutex = facts::words(gives, &turned, &words, below.members, members);
     Layer {
         members: members,
         words: mutex,

@@ -1,6 +1,9 @@
 -- `layering::facts::word_of` meets its contract.
 use borrow.Author.Needs.{needs}
-use Rattle.layering.specs.Drawn.{excluding}
+use mathlib.Core.List.{[]}
+use Rattle.graph.specs.Rounds.{listedSteps}
+use Rattle.graph.specs.Layers.{excluded}
+use Rattle.layering.specs.Drawn.{layer}
 use Rattle.layering.proofs.RoundCode.{word-absent, word-there}
 use Rattle.layering.proofs.facts.word_of.Statement.{statement}
 use Rattle.layering.proofs.facts.word_of.Tie as tie
@@ -11,7 +14,7 @@ bit-at-requires c κs = search needs
 returns : tie.Need-returns
 returns c =
     let a = c .before .before .args in
-    word-absent 32 (a .facts) (excluding (a .givers .now) (a .words .now)) (a .p) (c .before .bit-at .result) (c .before .bit-at .ensures) (c .if1 .taken)
+    word-absent 32 (a .facts) (excluded 32 (listedSteps [] (a .gives .now) []) (layer (a .members) (a .words .now))) (a .p) (c .before .bit-at .result) (c .before .bit-at .ensures) (c .if1 .taken)
 
 row-requires : tie.Need-row-requires
 row-requires c κs = search needs
@@ -20,7 +23,7 @@ returns-2 : tie.Need-returns-2
 returns-2 c =
     let a = c .before .before .before .args in
     let b = c .before .before .bit-at in
-    word-there 32 (a .facts) (excluding (a .givers .now) (a .words .now)) (a .p) (b .result) (c .row .result) (b .ensures) (c .before .if1 .left) (c .row .ensures)
+    word-there 32 (a .facts) (excluded 32 (listedSteps [] (a .gives .now) []) (layer (a .members) (a .words .now))) (a .p) (b .result) (c .row .result) (b .ensures) (c .before .if1 .left) (c .row .ensures)
 
 pub word-of-spec : {M : Type 1} → statement M
 word-of-spec = tie.close (tie.spec bit-at-requires returns row-requires returns-2)

@@ -2,24 +2,26 @@
 -- facts are left.
 use borrow.Author.Needs.{needs}
 use mathlib.Core.Path.{_≡_, ap, _∙_}
+use mathlib.Core.List.{[]}
 use Prim.Native.Nat.{ℕ, _-_, _≤_}
 use native.Mathlib.Omega.{arith}
 use Rattle.sets.specs.Ranges.{listTo}
 use Rattle.jobfile.specs.Answers.{padded}
-use Rattle.graph.specs.Layers.{mutexWord, mutexes}
-use Rattle.layering.specs.Drawn.{excluding}
+use Rattle.graph.specs.Rounds.{listedSteps}
+use Rattle.graph.specs.Layers.{mutexWord, mutexes, excluded}
+use Rattle.layering.specs.Drawn.{layer}
 use Rattle.layering.proofs.FactCode.{padded-start, padded-turn}
 use Rattle.layering.proofs.facts.words.Statement.{statement}
 use Rattle.layering.proofs.facts.words.Tie as tie
 
 abbrev Inv-loop : tie.InvT-loop
-Inv-loop givers words facts all₀ p₀ all p = (p ≤ 32) × (all ≡ padded 64 (listTo p (mutexWord 32 facts (excluding givers words))))
+Inv-loop gives turned words members facts all₀ p₀ all p = (p ≤ 32) × (all ≡ padded 64 (listTo p (mutexWord 32 facts (excluded 32 (listedSteps [] gives []) (layer members words)))))
 
 abbrev μ-loop : tie.MeasureT-loop
-μ-loop givers words facts all₀ p₀ all p = 32 - p
+μ-loop gives turned words members facts all₀ p₀ all p = 32 - p
 
 loop-holds : tie.Need-loop-holds Inv-loop μ-loop
-loop-holds c = (omega arith, padded-start 64 (mutexWord 32 (c .args .facts) (excluding (c .args .givers .now) (c .args .words .now))))
+loop-holds c = (omega arith, padded-start 64 (mutexWord 32 (c .args .facts) (excluded 32 (listedSteps [] (c .args .gives .now) []) (layer (c .args .members) (c .args .words .now)))))
 
 word-of-requires : tie.Need-word-of-requires Inv-loop μ-loop
 word-of-requires c κs = search needs
@@ -41,7 +43,7 @@ loop-again c =
     let a = c .before .before .before .args in
     let l = c .before .before .loop in
     let h = c .before .loop-test .taken in
-    (omega (arith, h), padded-turn 64 (mutexWord 32 (a .facts) (excluding (a .givers .now) (a .words .now))) (l .all) (l .p) (c .word-of .result) (omega (arith, h)) (l .inv .1) (c .word-of .ensures))
+    (omega (arith, h), padded-turn 64 (mutexWord 32 (a .facts) (excluded 32 (listedSteps [] (a .gives .now) []) (layer (a .members) (a .words .now)))) (l .all) (l .p) (c .word-of .result) (omega (arith, h)) (l .inv .1) (c .word-of .ensures))
 
 returns : tie.Need-returns Inv-loop μ-loop
 unfolding mutexes
@@ -49,7 +51,7 @@ returns c =
     let a = c .before .before .args in
     let l = c .before .loop in
     let e : l .p ≡ 32 = omega (arith, l .inv .0, c .loop-test .left) in
-    l .inv .1 ∙ ap (λ (m : ℕ). padded 64 (listTo m (mutexWord 32 (a .facts) (excluding (a .givers .now) (a .words .now))))) e
+    l .inv .1 ∙ ap (λ (m : ℕ). padded 64 (listTo m (mutexWord 32 (a .facts) (excluded 32 (listedSteps [] (a .gives .now) []) (layer (a .members) (a .words .now)))))) e
 
 pub words-spec : {M : Type 1} → statement M
 words-spec =

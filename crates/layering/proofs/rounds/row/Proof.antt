@@ -1,82 +1,80 @@
--- `layering::rounds::row` meets its contract. The invariant: the set so far is that of the vertices seen that x is mutex with. The measure is how
--- many vertices are left.
+-- `layering::rounds::row` meets its contract.
 use borrow.Author.Needs.{needs}
-use mathlib.Core.Path.{_≡_, refl, ap, _∙_}
-use Prim.Native.Nat.{ℕ, _-_, _≤_}
+use mathlib.Core.Path.{ap, _∙_}
+use Prim.Native.Nat.{ℕ, _^_, _<_}
 use native.Mathlib.Omega.{arith}
 use lib.ListN.{getD}
-use Rattle.sets.proofs.Made.{set-made}
-use Rattle.sets.specs.Ranges.{sumTo}
-use Rattle.sets.specs.Sets.{setOf}
+use Rattle.sets.specs.Sets.{meets}
 use Rattle.graph.specs.Rounds.{listedSteps}
-use Rattle.graph.specs.Layers.{mutexWith, rivals}
 use Rattle.layering.specs.Drawn.{layer}
-use Rattle.layering.proofs.RoundCode.{opposed-made, mutex-rivals}
+use Rattle.layering.proofs.RoundCode.{opposed-made, row-made}
 use Rattle.layering.proofs.rounds.row.Statement.{statement}
 use Rattle.layering.proofs.rounds.row.Tie as tie
 
-abbrev Inv-loop : tie.InvT-loop
-Inv-loop needs gives takes words members x against set₀ y₀ set y = (y ≤ 64) × (set ≡ setOf y (mutexWith members (rivals 32 (listedSteps needs gives takes) (layer 0 words)) x))
+less-requires : tie.Need-less-requires
+less-requires c κs = search needs
 
-abbrev μ-loop : tie.MeasureT-loop
-μ-loop needs gives takes words members x against set₀ y₀ set y = 64 - y
+mul-need : tie.Need-mul-need
+mul-need c = search needs
 
-mul-gather : tie.Need-mul-gather Inv-loop μ-loop
-mul-gather c = search needs
+element-copy-out-need : tie.Need-element-copy-out-need
+element-copy-out-need c = search needs
 
-element-copy-out-gather : tie.Need-element-copy-out-gather Inv-loop μ-loop
-element-copy-out-gather c = search needs
+mul-meeting : tie.Need-mul-meeting
+mul-meeting c = search needs
 
-gather-requires : tie.Need-gather-requires Inv-loop μ-loop
+element-copy-out-meeting : tie.Need-element-copy-out-meeting
+element-copy-out-meeting c = search needs
+
+meeting-requires : tie.Need-meeting-requires
+meeting-requires c κs = search needs
+
+mul-meeting-2 : tie.Need-mul-meeting-2
+mul-meeting-2 c = search needs
+
+element-copy-out-meeting-2 : tie.Need-element-copy-out-meeting-2
+element-copy-out-meeting-2 c = search needs
+
+meeting-requires-2 : tie.Need-meeting-requires-2
+meeting-requires-2 c κs = search needs
+
+gather-requires : tie.Need-gather-requires
 gather-requires c κs = search needs
 
-loop-holds : tie.Need-loop-holds Inv-loop μ-loop
-unfolding setOf sumTo
-loop-holds c = (omega arith, refl)
+meeting-requires-3 : tie.Need-meeting-requires-3
+meeting-requires-3 c κs = search needs
 
-mutex-requires : tie.Need-mutex-requires Inv-loop μ-loop
-mutex-requires c κs = search needs
-
-more-if-requires : tie.Need-more-if-requires Inv-loop μ-loop
-more-if-requires c κs = search needs
-
-add-y : tie.Need-add-y Inv-loop μ-loop
-add-y c = search needs
-
-loop-less : tie.Need-loop-less Inv-loop μ-loop
-loop-less c = search needs
-
-loop-again : tie.Need-loop-again Inv-loop μ-loop
-loop-again c =
-    let w = c .before .before .before .before .before .before in
+returns : tie.Need-returns
+returns c =
+    let w = c .before .before .before .before .before .before .before .before in
     let a = w .args in
-    let l = c .before .before .before .loop in
-    let g = c .before .before .before .before .gather in
+    let T = w .pre .1 .1 in
     let S = listedSteps (a .needs .now) (a .gives .now) (a .takes .now) in
     let L = layer 0 (a .words .now) in
-    let o = opposed-made 32 64 0 (getD (a .needs .now) (a .x) 0) (g .result) (a .words .now) (omega arith) (w .pre .1 (a .x) (w .pre .0)) (g .ensures) in
-    (omega (arith, c .before .before .loop-test .taken), set-made (mutexWith (a .members) (rivals 32 S L) (a .x)) (l .set) (l .y) (c .more-if .result) (c .before .mutex .result) (l .inv .1) (mutex-rivals 32 S L (g .result) (a .members) (a .x) (l .y) (c .before .mutex .result) o (c .before .mutex .ensures)) (c .more-if .ensures))
-
-returns : tie.Need-returns Inv-loop μ-loop
-returns c =
-    let a = c .before .before .before .before .args in
-    let l = c .before .loop in
-    let e : l .y ≡ 64 = omega (arith, l .inv .0, c .loop-test .left) in
-    l .inv .1 ∙ ap (λ (n : ℕ). setOf n (mutexWith (a .members) (rivals 32 (listedSteps (a .needs .now) (a .gives .now) (a .takes .now)) (layer 0 (a .words .now))) (a .x))) e
+    let others = c .before .before .before .before .before .before .before .less in
+    let disturbed = c .before .before .before .before .meeting in
+    let disturbing = c .before .before .meeting2 in
+    let g = c .before .gather in
+    let against = opposed-made 32 64 0 (getD (a .needs .now) (a .x) 0) (g .result) (a .words .now) (omega arith) (w .pre .1 .0 (a .x) (w .pre .0)) (g .ensures) in
+    let h : a .members < 2 ^ 64 = search needs in
+    row-made 32 64 S L (a .members) (a .x) (others .result) (disturbed .result) (disturbing .result) (c .meeting3 .result) h (others .ensures)
+    (disturbed .ensures _ (T .used))
+    (disturbing .ensures _ (T .taken))
+    (λ y l. c .meeting3 .ensures _ (T .needed) y l ∙ ap (λ (o : ℕ). meets o (getD (a .needs .now) y 0)) against)
 
 pub row-spec : {M : Type 1} → statement M
 row-spec =
     tie.close
     (tie.spec
-    Inv-loop
-    μ-loop
-    mul-gather
-    element-copy-out-gather
+    less-requires
+    mul-need
+    element-copy-out-need
+    mul-meeting
+    element-copy-out-meeting
+    meeting-requires
+    mul-meeting-2
+    element-copy-out-meeting-2
+    meeting-requires-2
     gather-requires
-    loop-holds
-    mutex-requires
-    more-if-requires
-    add-y
-    loop-less
-    loop-again
+    meeting-requires-3
     returns)

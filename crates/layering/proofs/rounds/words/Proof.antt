@@ -1,65 +1,44 @@
--- `layering::rounds::words` meets its contract. The invariant: the words of the vertices below x are made. The measure is how many vertices are left.
+-- `layering::rounds::words` meets its contract.
 use borrow.Author.Needs.{needs}
-use Prim.Native.Nat.{_-_, _≤_}
-use native.Mathlib.Omega.{arith}
-use Rattle.tables.proofs.TableLaws.{Filled, filled-start, filled-turn, filled-end}
-use Rattle.graph.specs.Rounds.{listedSteps}
-use Rattle.graph.specs.Layers.{mutexWord, mutexes, rivals}
-use Rattle.layering.specs.Drawn.{layer}
+use mathlib.Core.Path.{ap, _∙_}
+use Rattle.tables.specs.Tables.{transposed}
 use Rattle.layering.proofs.rounds.words.Statement.{statement}
 use Rattle.layering.proofs.rounds.words.Tie as tie
 
-abbrev Inv-loop : tie.InvT-loop
-Inv-loop needs gives takes words members all₀ x₀ all x = (x ≤ 64) × Filled 64 (mutexWord 64 members (rivals 32 (listedSteps needs gives takes) (layer 0 words))) all x
+used-requires : tie.Need-used-requires
+used-requires c κs = search needs
 
-abbrev μ-loop : tie.MeasureT-loop
-μ-loop needs gives takes words members all₀ x₀ all x = 64 - x
+transposed-requires : tie.Need-transposed-requires
+transposed-requires c κs = search needs
 
-loop-holds : tie.Need-loop-holds Inv-loop μ-loop
-loop-holds c =
-    let a = c .args in
-    (omega arith, filled-start 64 (mutexWord 64 (a .members) (rivals 32 (listedSteps (a .needs .now) (a .gives .now) (a .takes .now)) (layer 0 (a .words .now)))))
+transposed-requires-2 : tie.Need-transposed-requires-2
+transposed-requires-2 c κs = search needs
 
-word-of-requires : tie.Need-word-of-requires Inv-loop μ-loop
-word-of-requires c κs = search needs
+transposed-requires-3 : tie.Need-transposed-requires-3
+transposed-requires-3 c κs = search needs
 
-mul-all : tie.Need-mul-all Inv-loop μ-loop
-mul-all c = search needs
+words-by-requires : tie.Need-words-by-requires
+words-by-requires c κs =
+    let t = c .before .before .before in
+    let u = t .before .before in (
+      u .before .before .before .pre,
+      record {
+        used = u .transposed .ensures ∙ ap (transposed 64) (u .before .before .used .ensures);
+        taken = t .before .transposed2 .ensures;
+        needed = t .transposed3 .ensures;
+      },
+    )
 
-array-write-all : tie.Need-array-write-all Inv-loop μ-loop
-array-write-all c = search needs
-
-add-x : tie.Need-add-x Inv-loop μ-loop
-add-x c = search needs
-
-loop-less : tie.Need-loop-less Inv-loop μ-loop
-loop-less c = search needs
-
-loop-again : tie.Need-loop-again Inv-loop μ-loop
-loop-again c =
-    let a = c .before .before .before .args in
-    let l = c .before .before .loop in
-    let h = c .before .loop-test .taken in
-    (omega (arith, h), filled-turn 64 (mutexWord 64 (a .members) (rivals 32 (listedSteps (a .needs .now) (a .gives .now) (a .takes .now)) (layer 0 (a .words .now)))) (l .all) (l .x) (c .word-of .result) (l .inv .1) h (c .word-of .ensures))
-
-returns : tie.Need-returns Inv-loop μ-loop
-unfolding mutexes
-returns c =
-    let a = c .before .before .args in
-    let l = c .before .loop in
-    filled-end 64 (mutexWord 64 (a .members) (rivals 32 (listedSteps (a .needs .now) (a .gives .now) (a .takes .now)) (layer 0 (a .words .now)))) (l .all) (l .x) (l .inv .1) (omega (arith, l .inv .0, c .loop-test .left))
+returns : tie.Need-returns
+returns c = search needs
 
 pub words-spec : {M : Type 1} → statement M
 words-spec =
     tie.close
     (tie.spec
-    Inv-loop
-    μ-loop
-    loop-holds
-    word-of-requires
-    mul-all
-    array-write-all
-    add-x
-    loop-less
-    loop-again
+    used-requires
+    transposed-requires
+    transposed-requires-2
+    transposed-requires-3
+    words-by-requires
     returns)
