@@ -1,24 +1,21 @@
 // The tables of a network that a search is lent, made once.
 ghost use mathlib.Core.Path.{_≡_};
 ghost use Prim.Native.Nat.{_<_};
-ghost use lib.ListN.{getD};
-ghost use Rattle.sets.specs.Sets.{member, setOf};
-ghost use Rattle.tables.specs.Tables.{transposed, bothWays};
+ghost use lib.ListN.{length};
+ghost use Rattle.tables.specs.Tables.{transposed, bothWays, marked};
 use sets::word;
 
-// The numbers whose row has i.
-fn column(table: &[u64; 64], i: usize) -> u64
-    requires { ⌜ i < 64 ⌝ }
-    ensures { λ r. ⌜ r ≡ setOf 64 (λ j. member (getD (now (table .entry)) j 0) i) ⌝ }
+// Puts j into the rows at the members of the set.
+fn mark(turned: &mut [u64; 64], set: u64, j: usize)
+    requires { ⌜ (j < 64) × (length (now turned) ≡ 64) ⌝ }
+    ensures { λ r. ⌜ now (turned .exit) ≡ marked 64 (now (turned .entry)) set j ⌝ }
 {
-    let mut set: u64 = 0;
-    let mut j: usize = 0;
-    while j < 64 {
-        let has = word::bit_at(table[j], i) == 1;
-        set = word::more_if(set, j, has);
-        j += 1;
+    let mut left = set;
+    while left != 0 {
+        let i = word::lowest(left);
+        turned[i] = word::more(turned[i], j);
+        left = word::rest(left);
     }
-    set
 }
 
 // Of the wishes of each article, the carriers of each wish.
@@ -26,10 +23,10 @@ pub fn transposed(table: &[u64; 64]) -> [u64; 64]
     ensures { λ r. ⌜ r ≡ transposed 64 (now (table .entry)) ⌝ }
 {
     let mut turned: [u64; 64] = [0; 64];
-    let mut i: usize = 0;
-    while i < 64 {
-        turned[i] = column(table, i);
-        i += 1;
+    let mut j: usize = 0;
+    while j < 64 {
+        mark(&mut turned, table[j], j);
+        j += 1;
     }
     turned
 }

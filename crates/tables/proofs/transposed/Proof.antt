@@ -1,47 +1,53 @@
--- `tables::transposed` meets its contract. The invariant: the rows below i are made. The measure is how many rows are left.
+-- `tables::transposed` meets its contract. The invariant: each row has those numbers below j whose row has it. The measure is how many rows are left.
 use borrow.Author.Needs.{needs}
-use Prim.Native.Nat.{_-_, _≤_}
+use mathlib.Core.Path.{_≡_, ap, _∙_}
+use Prim.Native.Nat.{ℕ, _-_, _≤_}
 use native.Mathlib.Omega.{arith}
+use lib.ListN.{length}
+use Rattle.sets.specs.Ranges.{listTo}
+use Rattle.sets.proofs.Ranges.{list-length}
 use Rattle.tables.specs.Tables.{transposed}
-use Rattle.tables.proofs.TableLaws.{turnedRow, Filled, filled-start, filled-turn, filled-end}
+use Rattle.tables.proofs.TableLaws.{turnedRow, turned-start, turned-turn}
 use Rattle.tables.proofs.transposed.Statement.{statement}
 use Rattle.tables.proofs.transposed.Tie as tie
 
 abbrev Inv-loop : tie.InvT-loop
-Inv-loop table turned₀ i₀ turned i = (i ≤ 64) × Filled 64 (turnedRow 64 table) turned i
+Inv-loop table turned₀ j₀ turned j = (j ≤ 64) × (turned ≡ listTo 64 (turnedRow j table))
 
 abbrev μ-loop : tie.MeasureT-loop
-μ-loop table turned₀ i₀ turned i = 64 - i
+μ-loop table turned₀ j₀ turned j = 64 - j
 
 loop-holds : tie.Need-loop-holds Inv-loop μ-loop
-loop-holds c = (omega arith, filled-start 64 (turnedRow 64 (c .args .table .now)))
+loop-holds c = (omega arith, turned-start 64 (c .args .table .now))
 
-column-requires : tie.Need-column-requires Inv-loop μ-loop
-column-requires c κs = search needs
+mul-mark : tie.Need-mul-mark Inv-loop μ-loop
+mul-mark c = search needs
 
-mul-turned : tie.Need-mul-turned Inv-loop μ-loop
-mul-turned c = search needs
+element-copy-out-mark : tie.Need-element-copy-out-mark Inv-loop μ-loop
+element-copy-out-mark c = search needs
 
-array-write-turned : tie.Need-array-write-turned Inv-loop μ-loop
-array-write-turned c = search needs
+mark-requires : tie.Need-mark-requires Inv-loop μ-loop
+mark-requires c κs =
+    let l = c .before .before .before .loop in
+    (search needs, ap length (l .inv .1) ∙ list-length 64 (turnedRow (l .j) (c .before .before .before .before .args .table .now)))
 
-add-i : tie.Need-add-i Inv-loop μ-loop
-add-i c = search needs
+add-j : tie.Need-add-j Inv-loop μ-loop
+add-j c = search needs
 
 loop-less : tie.Need-loop-less Inv-loop μ-loop
 loop-less c = search needs
 
 loop-again : tie.Need-loop-again Inv-loop μ-loop
 loop-again c =
-    let l = c .before .before .loop in
-    let h = c .before .loop-test .taken in
-    (omega (arith, h), filled-turn 64 (turnedRow 64 (c .before .before .before .args .table .now)) (l .turned) (l .i) (c .column .result) (l .inv .1) h (c .column .ensures))
+    let l = c .before .before .before .before .loop in
+    (omega (arith, c .before .before .before .loop-test .taken), turned-turn 64 (c .before .before .before .before .before .args .table .now) (l .turned) (c .mark .last .0) (l .j) (l .inv .1) (c .mark .ensures))
 
 returns : tie.Need-returns Inv-loop μ-loop
 unfolding transposed
 returns c =
     let l = c .before .loop in
-    filled-end 64 (turnedRow 64 (c .before .before .args .table .now)) (l .turned) (l .i) (l .inv .1) (omega (arith, l .inv .0, c .loop-test .left))
+    let e : l .j ≡ 64 = omega (arith, l .inv .0, c .loop-test .left) in
+    l .inv .1 ∙ ap (λ (m : ℕ). listTo 64 (turnedRow m (c .before .before .args .table .now))) e
 
 pub transposed-spec : {M : Type 1} → statement M
 transposed-spec =
@@ -50,10 +56,10 @@ transposed-spec =
     Inv-loop
     μ-loop
     loop-holds
-    column-requires
-    mul-turned
-    array-write-turned
-    add-i
+    mul-mark
+    element-copy-out-mark
+    mark-requires
+    add-j
     loop-less
     loop-again
     returns)
