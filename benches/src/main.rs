@@ -1,0 +1,206 @@
+//! Benchmarks: the proved library beside its unproved twin and beside clasp and CaDiCaL, as ratios within one run.
+
+mod check;
+mod families;
+mod job;
+mod measure;
+mod ours;
+mod peers;
+mod stack;
+mod table;
+mod twin;
+
+use families::{Instances, Kind};
+use job::Question;
+use measure::{Asked, Case, Effort, Reply};
+use peers::{Peer, PeerTime, Peers};
+use stack::Stack;
+use std::path::Path;
+use std::process::ExitCode;
+use table::{Figures, Rival, Time, RIVALS};
+
+const SEED: u64 = 20_071_108;
+
+const USAGE: &str = "usage: bench [--family NAME] [--no-peers] [--peers-limit SECONDS] [--quick]";
+
+struct Options {
+    /// Only families whose name has this part.
+    family: String,
+    peers: bool,
+    /// Seconds a question, for a peer.
+    limit: f64,
+    /// Every fourth case, and fewer repetitions.
+    quick: bool,
+}
+
+fn options(mut words: impl Iterator<Item = String>) -> Option<Options> {
+    let mut options = Options { family: String::new(), peers: true, limit: 10.0, quick: false };
+    while let Some(word) = words.next() {
+        match word.as_str() {
+            "--family" => options.family = words.next()?,
+            "--no-peers" => options.peers = false,
+            "--peers-limit" => options.limit = words.next()?.parse().ok().filter(|limit| *limit > 0.0)?,
+            "--quick" => options.quick = true,
+            _ => return None,
+        }
+    }
+    Some(options)
+}
+
+/// Questions that follow each other under one label are one case.
+fn cases(instances: Instances) -> Vec<Case> {
+    let mut cases: Vec<Case> = Vec::new();
+    for (label, question) in instances {
+        match cases.last_mut().filter(|case| case.label == label) {
+            Some(case) => case.asked.push(Asked::new(question)),
+            None => cases.push(Case { label, asked: vec![Asked::new(question)] }),
+        }
+    }
+    cases
+}
+
+/// The bench as it goes: how to measure, and what has been found wrong.
+struct Bench {
+    effort: Effort,
+    peers: Option<Peers>,
+    /// Seconds a question, for a peer.
+    limit: f64,
+    faults: Vec<String>,
+    stack: Stack,
+    /// The most bytes of stack that a call of ours took, and for which case.
+    deepest: (usize, String),
+}
+
+/// Of a case with more questions than this, peers get every hundredth, and their time is scaled up.
+const SAMPLED: usize = 100;
+
+impl Bench {
+    fn figures(&mut self, family: &str, case: &Case) -> Figures {
+        let mut counts = twin::Counts::default();
+        let replies: Vec<Reply> = case.asked.iter().map(|asked| self.reply(family, case, asked, &mut counts)).collect();
+        let (ours, twin) = measure::seconds(case, &self.effort);
+        self.deepen(family, case);
+        let rivals = RIVALS.map(|rival| self.rival(rival, family, case, &replies));
+        Figures { label: case.label.clone(), ours, twin, nodes: counts.nodes, rivals }
+    }
+
+    fn deepen(&mut self, family: &str, case: &Case) {
+        let used = self.stack.used(|| case.ask(Asked::ours));
+        if used > self.deepest.0 {
+            self.deepest = (used, format!("{family}: {}", case.label));
+        }
+    }
+
+    /// Our reply, after it and the twin's have been checked and compared.
+    fn reply(&mut self, family: &str, case: &Case, asked: &Asked, counts: &mut twin::Counts) -> Reply {
+        let (ours, twin) = (asked.ours(), asked.twin(counts));
+        let mut complain = |what: String| self.faults.push(format!("{family}: {}: {what}", case.label));
+        for (who, reply) in [("ours", &ours), ("the twin's", &twin)] {
+            if let Some(fault) = asked.fault(reply) {
+                complain(format!("{who} {fault}: {:?}", reply.outcome));
+            }
+        }
+        if !ours.agrees(&twin) {
+            complain(format!("ours is {:?}, the twin's {:?}", ours.outcome, twin.outcome));
+        }
+        ours
+    }
+
+    /// The time of a rival for a case, after its verdicts have been compared with our answers.
+    fn rival(&mut self, rival: Rival, family: &str, case: &Case, replies: &[Reply]) -> Option<Time> {
+        let every = if case.asked.len() > SAMPLED { SAMPLED } else { 1 };
+        let mut total = Time { seconds: 0.0, cut_off: false };
+        let mut asked_for = 0;
+        for (asked, reply) in case.asked.iter().zip(replies).step_by(every) {
+            let answer = reply.outcome.ok().map(|(first, _)| first);
+            let time = self.ask(rival, &asked.question, answer)?;
+            total.seconds += if time.timed_out { self.limit } else { time.seconds };
+            total.cut_off |= time.timed_out;
+            asked_for += 1;
+            if !time.agrees {
+                let name = rival.name();
+                self.faults.push(format!("{family}: {}: {name} disagrees with {:?}", case.label, reply.outcome));
+            }
+        }
+        total.seconds *= case.asked.len() as f64 / asked_for as f64;
+        Some(total)
+    }
+
+    fn ask(&self, rival: Rival, question: &Question, answer: Option<u64>) -> Option<PeerTime> {
+        let peers = self.peers.as_ref()?;
+        match rival {
+            Rival::Clasp => peers.seconds(Peer::Clasp, question, answer, self.limit),
+            Rival::ClaspSmallest => peers.optimum_seconds(question, answer, self.limit),
+            Rival::Cadical => peers.seconds(Peer::Cadical, question, answer, self.limit),
+        }
+    }
+}
+
+/// What the figures are of.
+fn preface(bench: &Bench) {
+    let Effort { repetitions, seconds } = bench.effort;
+    println!(
+        "Ours and the twin: the best of {repetitions} repetitions of at least {} ms each, in turn in one process, from
+the bytes of a job file to the answer; for a choice this is our own partition and then the selection. A column
+\"/\" has the ratio of ours to another: of the totals, and the largest of a single case. Nodes are those of the
+twin's search.",
+        seconds * 1000.0
+    );
+    if let Some(peers) = &bench.peers {
+        println!(
+            "The peers are processes, whose start is taken off; less than {} ms counts as that. They are only asked
+whether there is an answer, but for \"clasp, smallest\", which finds the selection itself. They have {} s a
+question; where that was not enough it counts in their stead, and > marks the time, < the ratio. Of a series
+of more than {SAMPLED} questions they get every {SAMPLED}th, and their time is scaled up.",
+            table::LEAST * 1000.0,
+            bench.limit
+        );
+        for name in peers.missing() {
+            println!("{name} is missing; what needs it is left out.");
+        }
+    }
+    println!();
+}
+
+fn run(options: &Options) -> Vec<String> {
+    let (repetitions, seconds) = if options.quick { (5, 0.0005) } else { (20, 0.0005) };
+    let peers = options.peers.then(|| Peers::find(Path::new("target/bench/peers")));
+    let mut bench = Bench {
+        effort: Effort { repetitions, seconds },
+        peers,
+        limit: options.limit,
+        faults: Vec::new(),
+        stack: Stack::new(),
+        deepest: (0, String::new()),
+    };
+    preface(&bench);
+    println!("{}", table::head());
+    let mut worst = String::new();
+    let mut kind: Option<Kind> = None;
+    for family in families::all(SEED).into_iter().filter(|family| family.name.contains(&options.family)) {
+        if kind.replace(family.kind) != Some(family.kind) {
+            println!("{}", table::title(family.kind));
+        }
+        let every = if options.quick { 4 } else { 1 };
+        let cases: Vec<Case> = cases(family.instances).into_iter().step_by(every).collect();
+        let figures: Vec<Figures> = cases.iter().map(|case| bench.figures(family.name, case)).collect();
+        println!("{}", table::row(family.name, &figures));
+        worst += &table::worst_cases(family.name, &figures);
+    }
+    println!("\nThe cases of the largest figures\n{worst}");
+    println!("The most stack that a question took: {} bytes, {}\n", bench.deepest.0, bench.deepest.1);
+    bench.faults
+}
+
+fn main() -> ExitCode {
+    let Some(options) = options(std::env::args().skip(1)) else {
+        eprintln!("{USAGE}");
+        return ExitCode::from(2);
+    };
+    let faults = run(&options);
+    for fault in &faults {
+        println!("{fault}");
+    }
+    println!("{}", if faults.is_empty() { "All answers agree." } else { "Answers differ or are wrong." });
+    ExitCode::from(u8::from(!faults.is_empty()))
+}

@@ -1,0 +1,135 @@
+//! Puts the same questions to ours and to the twin, compares the answers, and measures both.
+
+use crate::check;
+use crate::job::Question;
+use crate::{ours, twin};
+use std::hint::black_box;
+use std::time::Instant;
+
+/// A question with what the calls take, made ready before the clock runs.
+pub struct Asked {
+    pub question: Question,
+    file: Vec<u8>,
+    goals: Vec<u64>,
+}
+
+/// One or more questions that are measured as a whole.
+pub struct Case {
+    pub label: String,
+    pub asked: Vec<Asked>,
+}
+
+/// Words of a lent buffer that no answer holds, to see which are kept.
+const KEPT: u32 = 0xdead_beef;
+
+/// All that comes of a question. A plan's outcome is its count of rounds and 0.
+pub struct Reply {
+    pub outcome: Result<(u64, u64), (u32, u64)>,
+    groups: [u8; 64],
+    rounds: [u32; 16],
+}
+
+impl Asked {
+    pub fn new(question: Question) -> Asked {
+        let (file, order) = match &question {
+            Question::Choose { job, .. } => (job.file(), job.order),
+            Question::Plan { job } => (job.file(), 0),
+        };
+        let goals = if order == 0 { vec![] } else { vec![order] };
+        Asked { question, file, goals }
+    }
+
+    /// From the bytes of the file to the answer: for a choice, our own partition and then the selection.
+    pub fn ours(&self) -> Reply {
+        let (mut groups, mut rounds) = ([0; 64], [KEPT; 16]);
+        let outcome = match &self.question {
+            Question::Choose { floor, .. } => ours::partition(&self.file, &mut groups)
+                .and_then(|()| ours::choose(&self.file, &groups, &self.goals, *floor)),
+            Question::Plan { .. } => ours::plan(&self.file, &mut rounds).map(|count| (count, 0)),
+        };
+        Reply { outcome, groups, rounds }
+    }
+
+    pub fn twin(&self, counts: &mut twin::Counts) -> Reply {
+        let (mut groups, mut rounds) = ([0; 64], [KEPT; 16]);
+        let outcome = match &self.question {
+            Question::Choose { floor, .. } => twin::partition(&self.file, &mut groups)
+                .and_then(|()| twin::choose(&self.file, &groups, &self.goals, *floor, counts)),
+            Question::Plan { .. } => twin::plan(&self.file, &mut rounds, counts).map(|count| (count, 0)),
+        };
+        Reply { outcome, groups, rounds }
+    }
+
+    /// What is wrong with a reply, if anything is. That no smaller answer exists, and that "none" is true, is for the
+    /// comparison with the twin and the peers.
+    pub fn fault(&self, reply: &Reply) -> Option<&'static str> {
+        match (&self.question, reply.outcome) {
+            (Question::Choose { job, floor }, Ok((selection, _))) => {
+                (!check::is_selection(job, *floor, selection)).then_some("is no selection")
+            }
+            (Question::Choose { .. }, Err(refusal)) => (refusal != (14, 0)).then_some("is refused"),
+            (Question::Plan { job }, Ok((count, _))) if count > job.horizon as u64 => Some("is beyond the horizon"),
+            (Question::Plan { job }, Ok((count, _))) => {
+                let (rounds, rest) = reply.rounds.split_at(count as usize);
+                let kept = rest.iter().all(|word| *word == KEPT);
+                (!check::is_plan(job, rounds)).then_some("is no plan").or((!kept).then_some("overwrites words"))
+            }
+            (Question::Plan { .. }, Err(refusal)) => (refusal != (15, 0)).then_some("is refused"),
+        }
+    }
+}
+
+impl Reply {
+    /// Which of the shortest plans it is is free.
+    pub fn agrees(&self, other: &Reply) -> bool {
+        self.outcome == other.outcome && self.groups == other.groups
+    }
+}
+
+impl Case {
+    pub fn ask(&self, mut solve: impl FnMut(&Asked) -> Reply) {
+        for asked in &self.asked {
+            black_box(solve(asked));
+        }
+    }
+}
+
+/// How long to measure.
+pub struct Effort {
+    pub repetitions: u32,
+    /// The least time of a repetition.
+    pub seconds: f64,
+}
+
+/// After so many seconds a case is not repeated any more.
+const PATIENCE: f64 = 4.0;
+
+/// Seconds of ours and of the twin: the best of several repetitions, taken in turn so that both meet the same noise.
+pub fn seconds(case: &Case, effort: &Effort) -> (f64, f64) {
+    let begin = Instant::now();
+    let mut best = (f64::INFINITY, f64::INFINITY);
+    let mut counts = twin::Counts::default();
+    for _ in 0..effort.repetitions {
+        best.0 = best.0.min(timed(effort, || case.ask(Asked::ours)));
+        best.1 = best.1.min(timed(effort, || case.ask(|asked| asked.twin(&mut counts))));
+        if begin.elapsed().as_secs_f64() > PATIENCE {
+            break;
+        }
+    }
+    best
+}
+
+/// Seconds a run. The clock is read between batches of runs that grow, so that reading it doesn't count.
+fn timed(effort: &Effort, mut run: impl FnMut()) -> f64 {
+    let begin = Instant::now();
+    let (mut runs, mut batch) = (0, 1);
+    loop {
+        (0..batch).for_each(|_| run());
+        runs += batch;
+        batch *= 2;
+        let seconds = begin.elapsed().as_secs_f64();
+        if seconds >= effort.seconds {
+            return seconds / runs as f64;
+        }
+    }
+}

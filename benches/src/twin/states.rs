@@ -1,0 +1,44 @@
+//! The states that single steps lead to from the start, where there are few.
+
+use super::reader::Fitting;
+
+const MOST: usize = 8192;
+const SLOTS: usize = 32768;
+
+/// Whether no plan exists at all: steps one after the other lead to few states, and none of them holds the goal.
+pub fn hopeless(job: &Fitting) -> bool {
+    let mut states = vec![job.start];
+    let mut slots = vec![0u16; SLOTS];
+    let mut at = 0;
+    while at < states.len() {
+        let facts = states[at];
+        if job.goal & !facts == 0 {
+            return false;
+        }
+        for a in 0..job.n {
+            if job.needs[a] & !facts == 0 && !insert(&mut states, &mut slots, facts & !job.takes[a] | job.gives[a]) {
+                return false;
+            }
+        }
+        at += 1;
+    }
+    true
+}
+
+/// Whether there was room for the state, if it is new.
+fn insert(states: &mut Vec<u64>, slots: &mut [u16], state: u64) -> bool {
+    let mut slot = (state % 32749) as usize;
+    for _ in 0..16 {
+        match slots[slot] as usize {
+            0 if states.len() == MOST => return false,
+            0 => {
+                states.push(state);
+                slots[slot] = states.len() as u16;
+                return true;
+            }
+            i if states[i - 1] == state => return true,
+            _ => slot = (slot + 1) % SLOTS,
+        }
+    }
+    false
+}
