@@ -1,8 +1,8 @@
 //! The families of instances. The seed is fixed, so every run has the same instances.
 
-mod fittings;
-mod networks;
-mod random;
+pub mod fittings;
+pub mod networks;
+pub mod random;
 
 use crate::job::{Choice, Fitting, Question, Step};
 use random::Random;
