@@ -7,8 +7,9 @@ const SLOTS: usize = 32768;
 
 /// Whether no plan exists at all: steps one after the other lead to few states, and none of them holds the goal.
 pub fn hopeless(job: &Fitting) -> bool {
-    let mut states = vec![job.start];
+    let mut states = Vec::new();
     let mut slots = vec![0u16; SLOTS];
+    insert(&mut states, &mut slots, job.start);
     let mut at = 0;
     while at < states.len() {
         let facts = states[at];
@@ -27,7 +28,7 @@ pub fn hopeless(job: &Fitting) -> bool {
 
 /// Whether there was room for the state, if it is new.
 fn insert(states: &mut Vec<u64>, slots: &mut [u16], state: u64) -> bool {
-    let mut slot = (state % 32749) as usize;
+    let mut slot = (state * 0x9e37_79b1 / 0x100_0000) as usize % SLOTS;
     for _ in 0..16 {
         match slots[slot] as usize {
             0 if states.len() == MOST => return false,

@@ -4,3 +4,4 @@ pub mod WordLaws
 pub mod VertexLaws
 pub mod LayerLaws
 pub mod BackLaws
+pub mod SerialLaws

@@ -1,22 +1,21 @@
--- A fact layer as the code computes it: by the givers of each fact, those that are mutex with all of them, and what all others give. Assumes
--- nothing.
-use mathlib.Core.Path.{_≡_, refl, sym, ap, ap₂, _∙_}
+-- A fact layer as the code computes it: by the givers of each fact, those that are mutex with all of them, and what these give. Assumes nothing.
+use mathlib.Core.Path.{_≡_, refl, sym, ap, ap₂, subst, _∙_}
 use mathlib.Core.Logic.{_⊎_, inl, inr, _≢_}
-use mathlib.Core.Bool.{Bool, true, false, not, _&&_, _||_}
+use mathlib.Core.Bool.{Bool, true, false, not, _&&_, _||_, false≢true}
 use mathlib.Core.List.{List, []}
-use Prim.Native.Nat.{ℕ, _+_, _-_, _^_, _<_, min, max}
+use Prim.Native.Nat.{ℕ, _+_, _-_, _^_, _<_, min}
 use native.Mathlib.Decide.{decLt, ℕ-discrete}
 use native.Mathlib.Omega.{arith}
-use lib.Bits.{bitAnd, bitOr, and-le-r}
+use lib.Bits.{bitAnd, and-le-r}
 use lib.Dec.{eqb}
 use lib.ListN.{getD, set, replicate, length-set, length-replicate, getD-replicate}
 use lib.Seq.{getD-set-same, getD-set-other, ext-getD}
-use borrow.Author.Tests.{not-false}
+use borrow.Author.Tests.{not-true}
 use Rattle.sets.specs.Ranges.{num, everyTo, listTo}
 use Rattle.sets.specs.Sets.{bit, _∈_, _⊆_, member, without, part, meets, full, setOf, gathered, lowest}
-use Rattle.sets.proofs.Ranges.{same-true, same-false, num-le, num-both, every-at, at-every, list-length, list-at, list-past}
-use Rattle.sets.proofs.Bits.{ext, bit-le, bit-cases, bit-empty, bit-and, bit-or, bit-without, bit-full, full-below, member-yes, yes-member, num-member, part-in, in-part, part-yes, yes-part, part-full, member-below, without-in, in-without, without-le, meets-no, no-meets, in-less, less-in}
-use Rattle.sets.proofs.Made.{set-below, set-bit, set-in, in-set}
+use Rattle.sets.proofs.Ranges.{both-true, same-true, num-le, num-both, every-at, at-every, list-length, list-at, list-past}
+use Rattle.sets.proofs.Bits.{ext, bit-le, bit-cases, bit-empty, bit-and, bit-without, bit-full, full-below, member-yes, yes-member, num-member, part-in, in-part, part-yes, yes-part, part-full, part-below, member-below, without-in, in-without, without-le, meets-no, no-meets, in-less, less-in}
+use Rattle.sets.proofs.Made.{set-below, set-bit, set-in, in-set, gathered-at, gathered-from}
 use Rattle.sets.proofs.Lowest.{lowest-below, lowest-member}
 use Rattle.jobfile.specs.Answers.{padded}
 use Rattle.tables.specs.Tables.{transposed}
@@ -156,71 +155,106 @@ module _ (n : ℕ) (row : ℕ → ℕ) where
 
 -- ---- the facts that one is mutex with
 
--- a part of m that has members outside a, by what a leaves of m
-outside : (m a g : ℕ) → g ⊆ m → meets (without m a) g ≡ not (part g a)
-outside m a g h = same-false (meets (without m a) g) (not (part g a)) there back
+-- what a leaves of m shares nothing with t exactly where all of t in m lies in a
+outside : (m a t : ℕ) → not (meets (without m a) t) ≡ part (bitAnd t m) a
+outside m a t = same-true (not (meets (without m a) t)) (part (bitAnd t m) a) there back
   where
-    there : meets (without m a) g ≡ false → not (part g a) ≡ false
-    there z = ap not (part-yes g a (in-part g a (λ i e. go i e (bit-cases a i))))
+    there : not (meets (without m a) t) ≡ true → part (bitAnd t m) a ≡ true
+    there z = part-yes (bitAnd t m) a (in-part (bitAnd t m) a (λ i e. go i e (bit-cases a i)))
       where
-        go : (i : ℕ) → i ∈ g → (bit a i ≡ 0) ⊎ (i ∈ a) → i ∈ a
-        go i e (inl o) = absurd (no-meets (without m a) g z i (without-in m a i (part-in g m h i e) o) e)
+        go : (i : ℕ) → i ∈ bitAnd t m → (bit a i ≡ 0) ⊎ (i ∈ a) → i ∈ a
+        go i e (inl o) =
+            absurd (no-meets (without m a) t (not-true (meets (without m a) t) z) i
+            (without-in m a i (omega (arith, bit-and t m i, bit-le m i)) o) (omega (arith, bit-and t m i, bit-le t i)))
         go i e (inr k) = k
 
-    back : not (part g a) ≡ false → meets (without m a) g ≡ false
-    back z = meets-no (without m a) g (λ i e k. omega (arith, in-without m a i e .1, yes-part g a (not-false (part g a) z) i))
+    back : part (bitAnd t m) a ≡ true → not (meets (without m a) t) ≡ true
+    back y = ap not (meets-no (without m a) t (λ i e k.
+        let (g, o) = in-without m a i e in
+        omega (arith, bit-and t m i, yes-part (bitAnd t m) a y i)))
 
--- a bit of the row: a fact, another one, whose givers are all against p, and none of them gives both
-row-bit : (f e o s : Bool) → min (num f - num e) 1 - max (num (not o)) (num s) ≡ num (f && (not e && (o && not s)))
-row-bit false e o s = omega arith
-row-bit true true o s = omega arith
-row-bit true false false s = omega (arith, num-le s)
-row-bit true false true true = omega arith
-row-bit true false true false = omega arith
+-- a bit of the row: a fact, another one, whose givers are all against p, and none of them gives both. Such a fact is near.
+row-bit : (f e n s g : Bool) → (f ≡ true → g ≡ true → n ≡ true) → min (min (min (num f - num e) (num n)) 1 - num s) (num g) ≡ num (f && (not e && (g && not s)))
+row-bit false e n s g h = omega arith
+row-bit true true n s g h = omega arith
+row-bit true false n s false h = omega arith
+row-bit true false n true true h = omega (arith, num-le n)
+row-bit true false true false true h = omega arith
+row-bit true false false false true h = absurd (false≢true (h refl refl))
 
--- The row of p as the code makes it. Of the others it leaves out what vertices give that are not mutex with all givers of p, and what the givers
--- of p give.
-pub row-made : (w members facts p others givers against free loose shared : ℕ) (gives words : List ℕ) → p < w + w
-    → others ≡ without facts (2 ^ p)
-    → givers ≡ giversOf w members gives words p
-    → against ≡ inAll (w + w) givers (λ x. getD words x 0)
-    → free ≡ without members against
-    → loose ≡ gathered (w + w) free (λ x. getD gives x 0)
-    → shared ≡ gathered (w + w) givers (λ x. getD gives x 0)
-    → without (bitAnd others (full w)) (bitOr loose shared) ≡ setOf w (mutexWith facts (excluded w (listedSteps [] gives []) (layer members words)) p)
-unfolding excluded
-row-made w members facts p others givers against free loose shared gives words lp eo eg ea ef en es =
-    set-by-bits w made (mutexWith facts (excluded w (listedSteps [] gives []) (layer members words)) p) below each
-  where
-    made : ℕ
-    made = without (bitAnd others (full w)) (bitOr loose shared)
+-- The row of p as the code makes it. Near are the facts that vertices against p give, shared those that givers of p give, and likely the other
+-- facts that are near and not shared. Of these the row has those that no free vertex gives, a member that is not against p.
+module _ (w members facts p : ℕ) (gives words turned : List ℕ) (fits : members < 2 ^ (w + w)) (around : turned ≡ transposed (w + w) gives)
+    (known : facts ≡ gathered (w + w) members (λ x. getD gives x 0)) where
+  abbrev G : ℕ → ℕ
+  G = giversOf w members gives words
 
-    G : ℕ → ℕ
-    G = giversOf w members gives words
+  -- a fact whose givers are all in a set is given by that set
+  near-given : (a q : ℕ) → q < w + w → member facts q ≡ true → part (G q) a ≡ true → member (gathered (w + w) a (λ x. getD gives x 0)) q ≡ true
+  near-given a q l f y =
+      let (x, k, e, m) = gathered-from (w + w) (λ x. getD gives x 0) members q (subst (λ (s : ℕ). q ∈ s) known (yes-member facts q f)) in
+      let here : x ∈ a = part-in (G q) a (yes-part (G q) a y) x (omega (arith, giver-bit w members gives words q x k)) in
+      member-yes (gathered (w + w) a (λ x. getD gives x 0)) q (part-in (getD gives x 0) (gathered (w + w) a (λ x. getD gives x 0)) (gathered-at (w + w) (λ x. getD gives x 0) a x k here) q m)
 
-    below : made < 2 ^ w
-    below = omega (arith, without-le (bitAnd others (full w)) (bitOr loose shared), and-le-r others (full w), full-below w)
+  pub row-made : (others against near shared likely free r : ℕ) → p < w + w
+      → others ≡ without facts (2 ^ p)
+      → against ≡ inAll (w + w) (bitAnd (getD turned p 0) members) (λ x. getD words x 0)
+      → near ≡ gathered (w + w) against (λ x. getD gives x 0)
+      → shared ≡ gathered (w + w) (bitAnd (getD turned p 0) members) (λ x. getD gives x 0)
+      → likely ≡ without (bitAnd (bitAnd others near) (full w)) shared
+      → free ≡ without members against
+      → r ≡ setOf (w + w) (λ q. member likely q && not (meets free (getD turned q 0)))
+      → r ≡ setOf w (mutexWith facts (excluded w (listedSteps [] gives []) (layer members words)) p)
+  unfolding excluded
+  row-made others against near shared likely free r lp eo ea en es el ef er =
+      er ∙ set-by-bits w made (mutexWith facts (excluded w (listedSteps [] gives []) (layer members words)) p) below each
+    where
+      test : ℕ → Bool
+      test q = member likely q && not (meets free (getD turned q 0))
 
-    loosely : (q : ℕ) → q < w → member loose q ≡ not (everyTo (w + w) (λ x. not (member (G p) x) || part (G q) (getD words x 0)))
-    loosely q l =
-        ap (λ (s : ℕ). member s q) (en ∙ ap (λ (s : ℕ). gathered (w + w) s (λ x. getD gives x 0)) ef)
-        ∙ given-meets w members gives words (without members against) q (λ x. omega (arith, bit-without members against x)) (omega arith)
-        ∙ outside members against (G q) (givers-in w members gives words q)
-        ∙ ap (λ (s : ℕ). not (part (G q) s)) (ea ∙ ap (λ (s : ℕ). inAll (w + w) s (λ x. getD words x 0)) eg)
-        ∙ ap not (all-part (w + w) (λ x. getD words x 0) (G p) (G q) (givers-below w members gives words q))
+      made : ℕ
+      made = setOf (w + w) test
 
-    both : (q : ℕ) → q < w → member shared q ≡ meets (G p) (G q)
-    both q l =
-        ap (λ (s : ℕ). member s q) (es ∙ ap (λ (s : ℕ). gathered (w + w) s (λ x. getD gives x 0)) eg)
-        ∙ given-meets w members gives words (G p) q (givers-in w members gives words p) (omega arith)
+      own : bitAnd (getD turned p 0) members ≡ G p
+      own = givers-made w members gives words turned p fits lp around
 
-    each : (q : ℕ) → q < w → bit made q ≡ num (mutexWith facts (excluded w (listedSteps [] gives []) (layer members words)) p q)
-    each q l =
-        bit-without (bitAnd others (full w)) (bitOr loose shared) q
-        ∙ ap₂ _-_
-        (bit-and others (full w) q ∙ ap₂ min (ap (λ (s : ℕ). bit s q) eo ∙ bit-less facts p q) (bit-full w q l))
-        (bit-or loose shared q ∙ ap₂ max (member-bit loose q (loosely q l)) (member-bit shared q (both q l)))
-        ∙ row-bit (member facts q) (eqb p q) (everyTo (w + w) (λ x. not (member (G p) x) || part (G q) (getD words x 0))) (meets (G p) (G q))
+      closed : ℕ → Bool
+      closed q = everyTo (w + w) (λ x. not (member (G p) x) || part (G q) (getD words x 0))
+
+      below : made < 2 ^ w
+      below = part-below w made likely
+          (in-part made likely (λ q e. yes-member likely q (both-true (member likely q) (not (meets free (getD turned q 0))) (in-set (w + w) test q e .1) .0)))
+          (omega (arith, without-le (bitAnd (bitAnd others near) (full w)) shared, and-le-r (bitAnd others near) (full w), full-below w))
+
+      -- the givers of q are all against p
+      against-all : (q : ℕ) → q < w → part (G q) against ≡ closed q
+      against-all q l = ap (part (G q)) (ea ∙ ap (λ (s : ℕ). inAll (w + w) s (λ x. getD words x 0)) own) ∙ all-part (w + w) (λ x. getD words x 0) (G p) (G q) (givers-below w members gives words q)
+
+      unfree : (q : ℕ) → q < w → not (meets free (getD turned q 0)) ≡ closed q
+      unfree q l =
+          ap (λ (s : ℕ). not (meets s (getD turned q 0))) ef ∙ outside members against (getD turned q 0)
+          ∙ ap (λ (s : ℕ). part s against) (givers-made w members gives words turned q fits (omega arith) around) ∙ against-all q l
+
+      both : (q : ℕ) → q < w → member shared q ≡ meets (G p) (G q)
+      both q l =
+          ap (λ (s : ℕ). member s q) (es ∙ ap (λ (s : ℕ). gathered (w + w) s (λ x. getD gives x 0)) own)
+          ∙ given-meets w members gives words (G p) q (givers-in w members gives words p) (omega arith)
+
+      likely-bit : (q : ℕ) → q < w → bit likely q ≡ min (min (num (member facts q) - num (eqb p q)) (num (member near q))) 1 - num (meets (G p) (G q))
+      likely-bit q l =
+          ap (λ (s : ℕ). bit s q) el ∙ bit-without (bitAnd (bitAnd others near) (full w)) shared q
+          ∙ ap₂ _-_
+          (bit-and (bitAnd others near) (full w) q
+          ∙ ap₂ min (bit-and others near q ∙ ap₂ min (ap (λ (s : ℕ). bit s q) eo ∙ bit-less facts p q) (sym (num-member near q))) (bit-full w q l))
+          (member-bit shared q (both q l))
+
+      each : (q : ℕ) → q < w → bit made q ≡ num (mutexWith facts (excluded w (listedSteps [] gives []) (layer members words)) p q)
+      each q l =
+          set-bit (w + w) test q (omega arith)
+          ∙ num-both (member likely q) (not (meets free (getD turned q 0)))
+          ∙ ap₂ min (num-member likely q ∙ likely-bit q l) (ap num (unfree q l))
+          ∙ row-bit (member facts q) (eqb p q) (member near q) (meets (G p) (G q)) (closed q)
+          (λ f y. ap (λ (s : ℕ). member s q) en ∙ near-given against q (omega arith) f (against-all q l ∙ y))
 
 -- ---- a loop that fills the first words of an array
 

@@ -1,18 +1,19 @@
--- Sets that the code makes by operations on words, told bit by bit: what a table that is turned round gives, and a set less one member. Assumes
--- nothing.
+-- Sets that the code makes by operations on words: told bit by bit, from a table that is turned round, less one member, and member by member.
+-- Assumes nothing.
 use mathlib.Core.Path.{_≡_, sym, ap, ap₂, _∙_}
-use mathlib.Core.Bool.{Bool, false}
+use mathlib.Core.Bool.{Bool, true, false, _&&_}
 use mathlib.Core.List.{List}
 use Prim.Native.Nat.{ℕ, _-_, _^_, _<_}
 use native.Mathlib.Decide.{ℕ-discrete}
 use native.Mathlib.Omega.{arith}
 use lib.Dec.{eqb}
 use lib.ListN.{getD}
-use Rattle.sets.specs.Ranges.{num}
+use lib.Pow.{pow-lt}
+use Rattle.sets.specs.Ranges.{num, given}
 use Rattle.sets.specs.Sets.{bit, _∈_, member, without, meets, setOf, gathered}
-use Rattle.sets.proofs.Ranges.{same-yes, same-no, same-false}
-use Rattle.sets.proofs.Bits.{ext-below, bit-without, bit-one, bit-other, not-in, member-below, member-no, num-member, not-member, meets-no, no-meets}
-use Rattle.sets.proofs.Made.{set-below, set-bit, gathered-at, gathered-from}
+use Rattle.sets.proofs.Ranges.{both-true, true-both, same-true, same-false, same-yes, same-no, given-yes, given-le}
+use Rattle.sets.proofs.Bits.{ext-below, bit-without, bit-one, only-one, bit-other, not-in, member-below, member-yes, yes-member, member-no, num-member, not-member, part-in, meets-no, no-meets}
+use Rattle.sets.proofs.Made.{set-below, set-bit, given-in, gathered-at, gathered-from, gathered-below}
 use Rattle.tables.specs.Tables.{transposed}
 use Rattle.tables.proofs.TableLaws.{turned-at}
 
@@ -52,3 +53,27 @@ turned-meets w s turned table h e y l =
     gathered-meets w s (getD table y 0) y (λ i. getD turned i 0)
     (λ i k m. ap (λ (t : List ℕ). bit (getD t i 0) y) e ∙ turned-at w table i y k l)
     (λ i m k. member-below s w i h m)
+
+-- the members of s that pass a test, one by one
+pub gathered-test : (n s : ℕ) (test : ℕ → Bool) → gathered n s (λ i. given (test i) (2 ^ i)) ≡ setOf n (λ i. member s i && test i)
+gathered-test n s test = set-by-bits n all (λ i. member s i && test i) below (λ i l. member-bit all i (same-true (member all i) (member s i && test i) (there i) (back i l)))
+  where
+    one : ℕ → ℕ
+    one i = given (test i) (2 ^ i)
+
+    all : ℕ
+    all = gathered n s one
+
+    below : all < 2 ^ n
+    below = gathered-below n one n s (λ i l e. omega (arith, given-le (test i) (2 ^ i), pow-lt l))
+
+    there : (i : ℕ) → member all i ≡ true → member s i && test i ≡ true
+    there i t =
+        let (a, l, e, g) = gathered-from n one s i (yes-member all i t) in
+        let (p, m) = given-in (test a) (2 ^ a) i g in
+        rw (only-one a i m) (true-both (member s a) (test a) (member-yes s a e) p)
+
+    back : (i : ℕ) → i < n → member s i && test i ≡ true → member all i ≡ true
+    back i l t =
+        let (m, p) = both-true (member s i) (test i) t in
+        member-yes all i (part-in (one i) all (gathered-at n one s i l (yes-member s i m)) i (ap (λ (x : ℕ). bit x i) (given-yes (test i) (2 ^ i) p) ∙ bit-one i))

@@ -82,4 +82,4 @@ search-none (b ∷ bs) n names h = absurd (omega arith)
 
 pub search-cong : (name : List ℕ) (n : ℕ) (names other : ℕ → List ℕ) → ((i : ℕ) → names i ≡ other i) → lowestNamed name n names ≡ lowestNamed name n other
 search-cong [] n names other h = refl
-search-cong (b ∷ bs) n names other h = first-cong (λ i. sameName (names i) (b ∷ bs)) (λ i. sameName (other i) (b ∷ bs)) (λ i. ap (λ (x : List ℕ). sameName x (b ∷ bs)) (h i)) n 0
+search-cong (b ∷ bs) n names other h = first-cong (λ i. sameName (names i) (b ∷ bs)) (λ i. sameName (other i) (b ∷ bs)) n 0 (λ i l. ap (λ (x : List ℕ). sameName x (b ∷ bs)) (h i))

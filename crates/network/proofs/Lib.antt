@@ -1,6 +1,7 @@
 -- Theorems on groups and on the filter.
 pub mod NetworkLaws
 pub mod GroupLaws
+pub mod MaskLaws
 pub mod LentLaws
 pub mod FilterLaws
 pub mod PartitionLaws

@@ -25,11 +25,11 @@ use Rattle.graph.specs.Back.{layerNetwork, Selects, needed as neededBy, stepsOf
 use Rattle.graph.proofs.PlanLaws.{PlanOf, none-fewest, some-fewest, reaches-more}
 use Rattle.graph.proofs.WordLaws.{words-length, rounds-words, rounds-turned}
 use Rattle.graph.proofs.LayerLaws.{roomy}
-use Rattle.graph.proofs.BackLaws.{forth, back}
+use Rattle.graph.proofs.BackLaws.{reaches-plan, forth, back}
 use Rattle.questions.specs.Questions.{rowOf}
 use Rattle.extraction.specs.Extraction.{Graph, graph, Picks, needed, Back, Held, Fine}
 use Rattle.planner.specs.Planner.{plannedBy, Words}
-use Rattle.planner.specs.Tabulated.{roundAfter, Tabulated, Laid, Searched}
+use Rattle.planner.specs.Tabulated.{roundAfter, Tabulated, Laid, Unplanned, Searched}
 use Rattle.planner.specs.declared.Planned.{Planned}
 use Rattle.planner.specs.declared.Planned.the-variants as Planned
 
@@ -124,6 +124,11 @@ module _ (F : Fitting) (h : ℕ) (T : Graph) (ok : Tabulated F h T) where
   back-reaches (suc j) g l (x, p, b) =
       let (rs, r) = back-reaches j (needed T x) (omega arith) b in
       (rs ++ (stepsOf 32 x ∷ []), forth 32 F (ok .sized) j g x rs (picks-selects j g x (omega arith) p) (subst (λ (n : ℕ). Reaches F j n rs) (needed-same x) r))
+
+  -- so that without a plan no count of rounds works the goal back
+  pub unplanned : (n g : ℕ) → n ≡ h → F .goal ≡ g → Unplanned F T n g
+  unplanned n g many e none k l b =
+      let (rs, r) = back-reaches k (F .goal) (omega arith) (subst (Back T k) (sym e) b) in none rs (reaches-plan F k rs r)
 
   pub reaches-back : (k g : ℕ) → k ≤ h → (rs : List ℕ) → Reaches F k g rs → Back T k g
   unfolding Back run

@@ -5,7 +5,7 @@ use Prim.Native.Nat.{ℕ, _+_, _*_, _≤_, _<_}
 use lib.ListN.{length, getD, drop}
 use Rattle.sets.specs.Ranges.{listTo}
 use Rattle.sets.specs.Sets.{full}
-use Rattle.graph.specs.Rounds.{Fitting}
+use Rattle.graph.specs.Rounds.{Fitting, Plan}
 use Rattle.graph.specs.Layers.{Layer, vertices, factLayer, roundOver}
 use Rattle.graph.specs.Back.{Sized}
 use Rattle.questions.specs.Questions.{rowOf}
@@ -44,6 +44,10 @@ pub record Put (j : ℕ) (row old new : List ℕ) : Type 0 where
 -- the words 0 to k - 1 are copied, and the others keep
 abbrev pub Copied : ℕ → List ℕ → List ℕ → List ℕ → Type 0
 Copied k words old new = ((i : ℕ) → i < k → getD new i 0 ≡ getD words i 0) × (drop k new ≡ drop k old)
+
+-- where there is no plan, the goal g is worked back in no count of rounds up to h
+abbrev pub Unplanned : Fitting → Graph → ℕ → ℕ → Type 0
+Unplanned F T h g = ((rs : List ℕ) → Plan F rs → ⊥) → (i : ℕ) → i ≤ h → Back T i g → ⊥
 
 -- the fewest rounds in which the goal can be worked back, with such selections; or that this cannot be done within the horizon
 abbrev pub Searched : Graph → ℕ → ℕ → List ℕ → List ℕ → Planned → Type 0

@@ -36,6 +36,7 @@ pub fn plan(job: ReadFitting, out: &mut [u32]) -> Planned
     let words = made.words;
     let h = job.horizon;
     search::shortest(
+        job,
         &needs,
         &gives,
         &carriers,

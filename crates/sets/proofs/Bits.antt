@@ -14,7 +14,7 @@ use lib.Dec.{eqb}
 use borrow.Author.Tests.{eq-eqb, ne-eqb, eqb-true, eqb-false, not-false}
 use Rattle.sets.specs.Ranges.{num, everyTo}
 use Rattle.sets.specs.Sets.{bit, _∈_, member, without, _⊆_, part, meets, everyPair, full}
-use Rattle.sets.proofs.Ranges.{num-true, num-false, every-at, at-every}
+use Rattle.sets.proofs.Ranges.{where-true, true-where, num-true, num-false, every-at, at-every}
 
 -- ---- one bit
 
@@ -234,14 +234,10 @@ yes-part a b t = none-without a b (eqb-true (without a b) 0 t)
 
 -- "where i is a member, b" as a test
 pub where-in : (s i : ℕ) (b : Bool) → (i ∈ s → b ≡ true) → not (member s i) || b ≡ true
-where-in s i b h = go (member s i) refl
-  where
-    go : (m : Bool) → member s i ≡ m → not m || b ≡ true
-    go true e = h (yes-member s i e)
-    go false e = refl
+where-in s i b h = where-true (member s i) b (λ e. h (yes-member s i e))
 
 pub in-where : (s i : ℕ) (b : Bool) → i ∈ s → not (member s i) || b ≡ true → b ≡ true
-in-where s i b e t = rw (member-yes s i e) at t
+in-where s i b e t = true-where (member s i) b (member-yes s i e) t
 
 -- every two members of a set of n bits pass the test, said both ways
 pub every-pair : (n s : ℕ) (test : ℕ → ℕ → Bool) → s < 2 ^ n → everyPair n s test ≡ true → (u v : ℕ) → u < v → u ∈ s → v ∈ s → test u v ≡ true

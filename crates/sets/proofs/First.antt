@@ -88,14 +88,14 @@ module _ (test : ℕ → Bool) where
   none-first (suc n) x h = first-miss n x (h x (omega arith) (omega arith)) ∙ none-first n (suc x) (λ j l k. h j (omega arith) (omega arith))
 
 -- tests that agree find the same
-pub first-cong : (test other : ℕ → Bool) → ((i : ℕ) → test i ≡ other i) → (n x : ℕ) → firstFrom test n x ≡ firstFrom other n x
+pub first-cong : (test other : ℕ → Bool) (n x : ℕ) → ((i : ℕ) → i < x + n → test i ≡ other i) → firstFrom test n x ≡ firstFrom other n x
 unfolding firstFrom
-first-cong test other h zero x = refl
-first-cong test other h (suc n) x = go (other x) refl (first-cong test other h n (suc x))
+first-cong test other zero x h = refl
+first-cong test other (suc n) x h = go (other x) refl (first-cong test other n (suc x) (λ i l. h i (omega arith)))
   where
     go : (b : Bool) → other x ≡ b → firstFrom test n (suc x) ≡ firstFrom other n (suc x) → firstFrom test (suc n) x ≡ firstFrom other (suc n) x
-    go true e r = first-hit test n x (h x ∙ e) ∙ sym (first-hit other n x e)
-    go false e r = first-miss test n x (h x ∙ e) ∙ r ∙ sym (first-miss other n x e)
+    go true e r = first-hit test n x (h x (omega arith) ∙ e) ∙ sym (first-hit other n x e)
+    go false e r = first-miss test n x (h x (omega arith) ∙ e) ∙ r ∙ sym (first-miss other n x e)
 
 -- ---- the first is the smallest
 

@@ -8,8 +8,8 @@ use native.Mathlib.Nat.{le-refl, le-trans, le-of-eq, eq-or-lt-of-le, le-max-left
 use native.Mathlib.Numerals.{add-one}
 use native.Mathlib.Omega.{arith}
 use lib.Dec.{leb, eqb}
-use lib.ListN.{length, getD, replicate, length-append, List·getD-append, List·getD-eq-default}
-use lib.Seq.{getD-at}
+use lib.ListN.{length, getD, set, replicate, length-append, length-set, length-replicate, List·getD-append, List·getD-eq-default}
+use lib.Seq.{getD-at, getD-set-same, getD-set-other, ext-getD}
 use borrow.Author.Tests.{eq-eqb, ne-eqb, eqb-true, eqb-false, le-leb, leb-true}
 use Rattle.sets.specs.Ranges.{num, given, everyTo, anyTo, sumTo, maxTo, listTo}
 
@@ -60,6 +60,15 @@ pub neither : (a b : Bool) → a || b ≡ false → (a ≡ false) × (b ≡ fals
 neither true b e = absurd (true≢false e)
 neither false b e = (refl, e)
 
+-- where the one passes, so does the other
+pub where-true : (a b : Bool) → (a ≡ true → b ≡ true) → not a || b ≡ true
+where-true true b h = h refl
+where-true false b h = refl
+
+pub true-where : (a b : Bool) → a ≡ true → not a || b ≡ true → b ≡ true
+true-where true b p q = q
+true-where false b p q = absurd (false≢true p)
+
 -- two tests that pass, or fail, together are the same
 pub same-true : (a b : Bool) → (a ≡ true → b ≡ true) → (b ≡ true → a ≡ true) → a ≡ b
 same-true true b f g = sym (f refl)
@@ -94,6 +103,10 @@ false-num false e = refl
 pub num-both : (a b : Bool) → num (a && b) ≡ min (num a) (num b)
 num-both true b = omega (arith, num-le b)
 num-both false b = omega arith
+
+pub num-either : (a b : Bool) → num (a || b) ≡ max (num a) (num b)
+num-either true b = omega (arith, num-le b)
+num-either false b = omega arith
 
 pub num-mono : (a b : Bool) → (a ≡ true → b ≡ true) → num a ≤ num b
 num-mono true b h = le-of-eq (sym (ap num (h refl)))
@@ -181,6 +194,18 @@ none-any n test h = go (test-cases (anyTo n test))
     go : (anyTo n test ≡ true) ⊎ (anyTo n test ≡ false) → anyTo n test ≡ false
     go (inl t) = let (i, l, e) = any-at n test t in absurd (true≢false (sym e ∙ h i l))
     go (inr t) = t
+
+-- some number passes the one test and fails the other, unless every number that passes the one passes the other
+pub any-every : (n : ℕ) (a b : ℕ → Bool) → anyTo n (λ i. a i && not (b i)) ≡ not (everyTo n (λ i. not (a i) || b i))
+unfolding anyTo everyTo
+any-every zero a b = refl
+any-every (suc k) a b = go (a k) (b k) (any-every k a b)
+  where
+    go : (p q : Bool) → anyTo k (λ i. a i && not (b i)) ≡ not (everyTo k (λ i. not (a i) || b i))
+        → elim (p && not q) [ true ↦ true | false ↦ anyTo k (λ i. a i && not (b i)) ] ≡ not (elim (not p || q) [ true ↦ everyTo k (λ i. not (a i) || b i) | false ↦ false ])
+    go true true r = r
+    go true false r = refl
+    go false q r = r
 
 -- ---- sums
 
@@ -365,3 +390,21 @@ pub zeros : (n i : ℕ) → getD (replicate {A = ℕ} n 0) i 0 ≡ 0
 zeros zero i = refl
 zeros (suc n) zero = refl
 zeros (suc n) (suc i) = zeros n i
+
+pub list-zeros : (n : ℕ) (f : ℕ → ℕ) → ((i : ℕ) → i < n → f i ≡ 0) → replicate {A = ℕ} n 0 ≡ listTo n f
+list-zeros n f h =
+    ext-getD 0 (replicate {A = ℕ} n 0) (listTo n f) (length-replicate {A = ℕ} n 0 ∙ sym (list-length n f))
+    (λ i l. let k : i < n = omega (arith, length-replicate {A = ℕ} n 0) in zeros n i ∙ sym (list-at n f 0 i k ∙ h i k))
+
+-- ---- one entry of a list changed
+
+pub list-set : (n : ℕ) (f g : ℕ → ℕ) (i x : ℕ) → i < n → x ≡ g i → ((k : ℕ) → k ≢ i → f k ≡ g k) → set (listTo n f) i x ≡ listTo n g
+list-set n f g i x l e h =
+    ext-getD 0 (set (listTo n f) i x) (listTo n g) (size ∙ sym (list-length n g)) (λ k m. go k (omega (arith, size)) (same-cases k i))
+  where
+    size : length (set (listTo n f) i x) ≡ n
+    size = length-set (listTo n f) i x ∙ list-length n f
+
+    go : (k : ℕ) → k < n → (k ≡ i) ⊎ (k ≢ i) → getD (set (listTo n f) i x) k 0 ≡ getD (listTo n g) k 0
+    go k m (inl q) = rw q (getD-set-same (listTo n f) i x 0 (omega (arith, list-length n f)) ∙ e ∙ sym (list-at n g 0 i l))
+    go k m (inr d) = getD-set-other (listTo n f) i k x 0 d ∙ list-at n f 0 k m ∙ h k d ∙ sym (list-at n g 0 k m)

@@ -13,7 +13,7 @@ transposed-requires : tie.Need-transposed-requires
 transposed-requires c κs = search needs
 
 words-requires : tie.Need-words-requires
-words-requires c κs = c .before .before .transposed .ensures
+words-requires c κs = (c .before .before .transposed .ensures, c .before .before .before .gather .ensures)
 
 returns : tie.Need-returns
 returns c =

@@ -1,8 +1,7 @@
 -- `layering::facts::row` meets its contract.
 use borrow.Author.Needs.{needs}
-use mathlib.Core.Path.{_∙_}
 use Prim.Native.Nat.{_^_, _<_}
-use Rattle.layering.proofs.FactCode.{givers-made, row-made}
+use Rattle.layering.proofs.FactCode.{row-made}
 use Rattle.layering.proofs.facts.row.Statement.{statement}
 use Rattle.layering.proofs.facts.row.Tie as tie
 
@@ -18,32 +17,32 @@ element-copy-out-givers c = search needs
 common-requires : tie.Need-common-requires
 common-requires c κs = search needs
 
-without-requires : tie.Need-without-requires
-without-requires c κs = search needs
-
 gather-requires : tie.Need-gather-requires
 gather-requires c κs = search needs
 
 gather-requires-2 : tie.Need-gather-requires-2
 gather-requires-2 c κs = search needs
 
+without-requires : tie.Need-without-requires
+without-requires c κs = search needs
+
 without-requires-2 : tie.Need-without-requires-2
 without-requires-2 c κs = search needs
 
+ungiven-requires : tie.Need-ungiven-requires
+ungiven-requires c κs = search needs
+
 returns : tie.Need-returns
 returns c =
-    let w = c .before .before .before .before .before .before .before in
+    let likely = c .before .before in
+    let near = likely .before .before in
+    let others = near .before .before .before in
+    let w = others .before in
     let a = w .args in
-    let others = c .before .before .before .before .before .before .less in
-    let against = c .before .before .before .before .common in
-    let free = c .before .before .before .without in
-    let loose = c .before .before .gather in
-    let shared = c .before .gather2 in
     let h : a .members < 2 ^ 64 = search needs in
-    c .without2 .ensures
-    ∙ row-made 32 (a .members) (a .facts) (a .p) (others .result) _ (against .result) (free .result) (loose .result) (shared .result) (a .gives .now) (a .words .now) (w .pre .0) (others .ensures)
-    (givers-made 32 (a .members) (a .gives .now) (a .words .now) (a .turned .now) (a .p) h (w .pre .0) (w .pre .1))
-    (against .ensures) (free .ensures) (loose .ensures) (shared .ensures)
+    row-made 32 (a .members) (a .facts) (a .p) (a .gives .now) (a .words .now) (a .turned .now) h (w .pre .1 .0) (w .pre .1 .1)
+    (others .less .result) (near .before .common .result) (near .gather .result) (likely .before .gather2 .result) (likely .without .result) (c .before .without2 .result) (c .ungiven .result)
+    (w .pre .0) (others .less .ensures) (near .before .common .ensures) (near .gather .ensures) (likely .before .gather2 .ensures) (likely .without .ensures) (c .before .without2 .ensures) (c .ungiven .ensures)
 
 pub row-spec : {M : Type 1} → statement M
 row-spec =
@@ -53,8 +52,9 @@ row-spec =
     mul-givers
     element-copy-out-givers
     common-requires
-    without-requires
     gather-requires
     gather-requires-2
+    without-requires
     without-requires-2
+    ungiven-requires
     returns)

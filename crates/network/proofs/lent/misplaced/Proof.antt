@@ -1,64 +1,45 @@
--- `network::lent::misplaced` meets its contract. The invariant: the articles below v are not at odds with u.
+-- `network::lent::misplaced` meets its contract.
 use borrow.Author.Needs.{needs}
-use mathlib.Core.Path.{_≡_, sym, _∙_}
-use mathlib.Core.Bool.{false}
-use Prim.Native.Nat.{ℕ, _-_, _≤_, _<_}
 use native.Mathlib.Omega.{arith}
-use lib.ListN.{getD}
-use Rattle.sets.proofs.Ranges.{one-more}
-use Rattle.network.proofs.LentLaws.{odd, out-of-range, one-odd, none-odd}
+use Rattle.network.proofs.LentLaws.{out-of-range, by-mask}
 use Rattle.network.proofs.lent.misplaced.Statement.{statement}
 use Rattle.network.proofs.lent.misplaced.Tie as tie
 
-abbrev Inv-loop : tie.InvT-loop
-Inv-loop clashes groups n u v₀ v = (v ≤ u) × (getD groups u 0 < n) × ((w : ℕ) → w < v → odd n clashes groups u w ≡ false)
-
-abbrev μ-loop : tie.MeasureT-loop
-μ-loop clashes groups n u v₀ v = u - v
-
-shared-slice-read-wide : tie.Need-shared-slice-read-wide Inv-loop μ-loop
+shared-slice-read-wide : tie.Need-shared-slice-read-wide
 shared-slice-read-wide c = search needs
 
-wide-requires : tie.Need-wide-requires Inv-loop μ-loop
+wide-requires : tie.Need-wide-requires
 wide-requires c κs = search needs
 
-returns : tie.Need-returns Inv-loop μ-loop
-returns c = out-of-range (c .before .before .before .before .args .n) (c .before .before .before .before .args .clashes .now) (c .before .before .before .before .args .groups .now) (c .before .before .before .before .args .u) (omega (arith, c .if1 .taken, c .before .wide .ensures))
+returns : tie.Need-returns
+returns c =
+    let a = c .before .before .before .before .args in
+    out-of-range (a .n) (a .clashes .now) (a .groups .now) (a .u) (omega (arith, c .if1 .taken, c .before .wide .ensures))
 
-loop-holds : tie.Need-loop-holds Inv-loop μ-loop
-loop-holds c = (omega arith, omega (arith, c .if1 .left, c .before .wide .ensures), λ w l. absurd (omega arith))
+mul-clashes-all : tie.Need-mul-clashes-all
+mul-clashes-all c = search needs
 
-at-odds-requires : tie.Need-at-odds-requires Inv-loop μ-loop
-at-odds-requires c κs = search needs
+element-copy-out-clashes-all : tie.Need-element-copy-out-clashes-all
+element-copy-out-clashes-all c = search needs
 
-returns-2 : tie.Need-returns-2 Inv-loop μ-loop
-returns-2 c = one-odd (c .before .before .before .before .before .before .before .before .args .n) (c .before .before .before .before .before .before .before .before .args .clashes .now) (c .before .before .before .before .before .before .before .before .args .groups .now) (c .before .before .before .before .before .before .before .before .args .u) (c .before .before .before .loop .inv .1) (c .before .before .before .loop .v) (c .before .before .loop-test .taken) (sym (c .before .at-odds .ensures) ∙ c .if2 .taken)
+clashes-all-requires : tie.Need-clashes-all-requires
+clashes-all-requires c κs = search needs
 
-add-v : tie.Need-add-v Inv-loop μ-loop
-add-v c = search needs
-
-loop-less : tie.Need-loop-less Inv-loop μ-loop
-loop-less c = search needs
-
-loop-again : tie.Need-loop-again Inv-loop μ-loop
-loop-again c = (omega (arith, c .before .before .loop-test .taken), c .before .before .before .loop .inv .1, one-more (λ w. odd (c .before .before .before .before .before .before .before .before .args .n) (c .before .before .before .before .before .before .before .before .args .clashes .now) (c .before .before .before .before .before .before .before .before .args .groups .now) (c .before .before .before .before .before .before .before .before .args .u) w ≡ false) (c .before .before .before .loop .v) (c .before .before .before .loop .inv .2) (sym (c .before .at-odds .ensures) ∙ c .if2 .left))
-
-returns-3 : tie.Need-returns-3 Inv-loop μ-loop
-returns-3 c = none-odd (c .before .before .before .before .before .before .args .n) (c .before .before .before .before .before .before .args .clashes .now) (c .before .before .before .before .before .before .args .groups .now) (c .before .before .before .before .before .before .args .u) (c .before .loop .inv .1) (λ w l. c .before .loop .inv .2 w (omega (arith, c .loop-test .left)))
+returns-2 : tie.Need-returns-2
+returns-2 c =
+    let s = c .before .before .before .before .before .before in
+    let a = s .args in
+    let g = c .before .before .before .wide in
+    by-mask (a .n) (a .clashes .now) (a .groups .now) (a .u) 64 (a .masks .now) (g .result) (c .clashes-all .result) (s .pre .0) (s .pre .1) (s .pre .3) (g .ensures) (c .before .before .if1 .left) (c .clashes-all .ensures)
 
 pub misplaced-spec : {M : Type 1} → statement M
 misplaced-spec =
     tie.close
     (tie.spec
-    Inv-loop
-    μ-loop
     shared-slice-read-wide
     wide-requires
     returns
-    loop-holds
-    at-odds-requires
-    returns-2
-    add-v
-    loop-less
-    loop-again
-    returns-3)
+    mul-clashes-all
+    element-copy-out-clashes-all
+    clashes-all-requires
+    returns-2)

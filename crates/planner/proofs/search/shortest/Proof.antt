@@ -6,6 +6,8 @@ use Prim.Native.Nat.{ℕ, _+_, _-_, _≤_, _<_}
 use native.Mathlib.Omega.{arith}
 use lib.ListN.{length, drop}
 use Rattle.sets.proofs.Bits.{bit-empty, part-refl}
+use Rattle.layering.specs.Drawn.{fittingIn}
+use Rattle.states.specs.States.{Hopeless}
 use Rattle.extraction.specs.Extraction.{graph, Back, Nogoods, Extracted}
 use Rattle.extraction.proofs.NogoodLaws.{empty-nogoods}
 use Rattle.planner.proofs.SearchLaws.{held-same, refused-more}
@@ -13,12 +15,12 @@ use Rattle.planner.proofs.search.shortest.Statement.{statement}
 use Rattle.planner.proofs.search.shortest.Tie as tie
 
 abbrev Inv-loop : tie.InvT-loop
-Inv-loop needs gives carriers members words start all goal out₀ made₀ table₀ k₀ out made table k =
+Inv-loop job needs gives carriers members words start all goal out₀ made₀ table₀ k₀ out made table k =
     (k ≤ length members + 1) × (length made ≡ 16) × (length table ≡ 8192) × (out ≡ out₀) × Nogoods (graph needs gives members words start all) table
     × ((i : ℕ) → i < k → Back (graph needs gives members words start all) i goal → ⊥)
 
 abbrev μ-loop : tie.MeasureT-loop
-μ-loop needs gives carriers members words start all goal out₀ made₀ table₀ k₀ out made table k =
+μ-loop job needs gives carriers members words start all goal out₀ made₀ table₀ k₀ out made table k =
     length members + 1 - k
 
 loop-holds : tie.Need-loop-holds Inv-loop μ-loop
@@ -32,6 +34,9 @@ loop-holds c =
       λ i l. absurd (let f : ⊥ = omega arith in f),
     )
 
+array-read-before : tie.Need-array-read-before Inv-loop μ-loop
+array-read-before c = search needs
+
 slice-aggregate-extract : tie.Need-slice-aggregate-extract Inv-loop μ-loop
 slice-aggregate-extract c = search needs
 
@@ -43,7 +48,7 @@ extract-requires c κs =
     let w = c .before .before .before .before .before .before .before in
     let l = c .before .before .before .loop in
     let k : l .k ≤ length (w .args .members .now) = c .before .before .loop-test .taken in
-    ((w .pre .0, l .inv .4), (k, omega (arith, w .pre .0 .short, l .inv .1), w .pre .2, part-refl (w .args .all), λ i. omega (arith, bit-empty i)))
+    ((w .pre .0 .0, l .inv .4), (k, omega (arith, w .pre .0 .0 .short, l .inv .1), w .pre .0 .2, part-refl (w .args .all), λ i. omega (arith, bit-empty i)))
 
 enum-known-outcome : tie.Need-enum-known-outcome Inv-loop μ-loop
 enum-known-outcome c = search needs
@@ -56,10 +61,10 @@ copy-requires c κs =
     let w = c .before .before .before .before .before .before .before .before .before .before .before .before .before .before in
     let l = c .before .before .before .before .before .before .before .before .before .before .loop in
     let k : l .k ≤ length (w .args .members .now) = c .before .before .before .before .before .before .before .before .before .loop-test .taken in
-    (omega (arith, w .pre .0 .short), omega (arith, w .pre .1, ap length (l .inv .3)))
+    (omega (arith, w .pre .0 .0 .short), omega (arith, w .pre .0 .1, ap length (l .inv .3)))
 
 same-length : tie.Need-same-length Inv-loop μ-loop
-same-length c = search needs
+same-length c = c .before .before .copy .kept .0 ∙ ap length (c .before .before .before .before .before .before .before .before .before .before .before .before .before .loop .inv .3)
 
 returns : tie.Need-returns Inv-loop μ-loop
 returns c =
@@ -76,6 +81,21 @@ returns c =
       copied .ensures .1 ∙ ap (drop (l .k)) (l .inv .3),
     )
 
+array-read-stored : tie.Need-array-read-stored Inv-loop μ-loop
+array-read-stored c = search needs
+
+stuck-requires : tie.Need-stuck-requires Inv-loop μ-loop
+stuck-requires c κs = search needs
+
+same-length-2 : tie.Need-same-length-2 Inv-loop μ-loop
+same-length-2 c = search needs
+
+returns-2 : tie.Need-returns-2 Inv-loop μ-loop
+returns-2 c =
+    let w = c .before .before .before .before .before .before .before .before .before .before .before .before .before .before .before in
+    let l = c .before .before .before .before .before .before .before .before .before .before .before .loop in
+    (l .inv .3, w .pre .1 .1 (subst (Hopeless (fittingIn (w .args .job))) (c .if1 .taken) (c .before .stuck .ensures)))
+
 add-k : tie.Need-add-k Inv-loop μ-loop
 add-k c = search needs
 
@@ -84,26 +104,26 @@ loop-less c = search needs
 
 loop-again : tie.Need-loop-again Inv-loop μ-loop
 loop-again c =
-    let w = c .before .before .before .before .before .before .before .before .before .before .before .before .before in
-    let l = c .before .before .before .before .before .before .before .before .before .loop in
-    let e = c .before .before .before .before .before .extract in
+    let w = c .before .before .before .before .before .before .before .before .before .before .before .before .before .before .before in
+    let l = c .before .before .before .before .before .before .before .before .before .before .before .loop in
+    let e = c .before .before .before .before .before .before .before .extract in
     let T = graph (w .args .needs .now) (w .args .gives .now) (w .args .members .now) (w .args .words .now) (w .args .start) (w .args .all) in
-    let k : l .k ≤ length (w .args .members .now) = c .before .before .before .before .before .before .before .before .loop-test .taken in
+    let k : l .k ≤ length (w .args .members .now) = c .before .before .before .before .before .before .before .before .before .before .loop-test .taken in
     let made = e .last .1 .1 .1 .1 .1 .1 .1 .0 in
-    let refused = subst (λ r. Extracted T (l .k) (w .args .goal) (w .args .all) 0 0 made r) (c .before .outcome .given .1) (e .ensures .0) in (
+    let refused = subst (λ r. Extracted T (l .k) (w .args .goal) (w .args .all) 0 0 made r) (c .before .before .before .outcome .given .1) (e .ensures .0) in (
       omega arith,
       search needs,
       search needs,
       l .inv .3,
       e .ensures .1,
-      refused-more T (w .args .carriers .now) (w .pre .0) (l .k) (w .args .goal) (c .before .outcome .given .0 .0) refused (l .inv .5),
+      refused-more T (w .args .carriers .now) (w .pre .0 .0) (l .k) (w .args .goal) (c .before .before .before .outcome .given .0 .0) refused (l .inv .5),
     )
 
-same-length-2 : tie.Need-same-length-2 Inv-loop μ-loop
-same-length-2 c = search needs
+same-length-3 : tie.Need-same-length-3 Inv-loop μ-loop
+same-length-3 c = search needs
 
-returns-2 : tie.Need-returns-2 Inv-loop μ-loop
-returns-2 c =
+returns-3 : tie.Need-returns-3 Inv-loop μ-loop
+returns-3 c =
     let l = c .before .loop in
     (l .inv .3, λ i b. l .inv .5 i (omega (arith, c .loop-test .left)))
 
@@ -114,6 +134,7 @@ shortest-spec =
     Inv-loop
     μ-loop
     loop-holds
+    array-read-before
     slice-aggregate-extract
     slice-aggregate-extract-2
     extract-requires
@@ -122,8 +143,12 @@ shortest-spec =
     copy-requires
     same-length
     returns
+    array-read-stored
+    stuck-requires
+    same-length-2
+    returns-2
     add-k
     loop-less
     loop-again
-    same-length-2
-    returns-2)
+    same-length-3
+    returns-3)

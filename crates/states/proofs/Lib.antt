@@ -1,0 +1,2 @@
+-- The laws that the list of states rests on.
+pub mod StateLaws

@@ -1,0 +1,16 @@
+-- `states::after` meets its contract.
+use borrow.Author.Needs.{needs}
+use mathlib.Core.Path.{ap}
+use Prim.Native.Nat.{ℕ}
+use lib.Bits.{bitOr}
+use Rattle.states.proofs.after.Statement.{statement}
+use Rattle.states.proofs.after.Tie as tie
+
+without-requires : tie.Need-without-requires
+without-requires c κs = search needs
+
+returns : tie.Need-returns
+returns c = ap (λ (x : ℕ). bitOr x (c .before .args .gives)) (c .without .ensures)
+
+pub after-spec : {M : Type 1} → statement M
+after-spec = tie.close (tie.spec without-requires returns)

@@ -1,0 +1,2 @@
+-- What is promised of the states that steps lead to.
+pub mod States
