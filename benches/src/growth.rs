@@ -8,9 +8,6 @@ use crate::table::Figures;
 /// Instances a point.
 const DRAWN: usize = 40;
 
-/// How the tables are read.
-pub const LEGEND: &str = "Of each point 40 drawn instances: the median and the worst.";
-
 pub struct Series {
     pub title: &'static str,
     pub points: Vec<(String, Instances)>,
@@ -67,6 +64,10 @@ pub fn all(seed: u64) -> Vec<Series> {
         Series { title: "Fitting, by horizon", points: by_horizon.concat() },
         Series { title: "Fitting, by steps", points: by_steps.concat() },
     ]
+}
+
+pub fn legend() -> String {
+    format!("Of each point {DRAWN} drawn instances: the median and the worst.")
 }
 
 pub fn head() -> String {

@@ -192,11 +192,11 @@ fn run(options: &Options) -> Vec<String> {
 }
 
 fn grow(bench: &mut Bench) {
-    println!("{}\n", growth::LEGEND);
+    println!("{}\n", growth::legend());
     for series in growth::all(SEED) {
         println!("{}\n{}", series.title, growth::head());
         for (label, instances) in series.points {
-            let figures: Vec<Figures> = cases(instances).iter().map(|case| bench.figures(&label, case)).collect();
+            let figures: Vec<Figures> = cases(instances).iter().map(|case| bench.figures(series.title, case)).collect();
             println!("{}", growth::row(&label, &figures));
         }
         println!();
