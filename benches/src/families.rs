@@ -1,8 +1,9 @@
 //! The families of instances. The seed is fixed, so every run has the same instances.
 
-mod fittings;
-mod networks;
-mod random;
+pub mod fittings;
+pub mod networks;
+pub mod random;
+mod worst;
 
 use crate::job::{Choice, Fitting, Question, Step};
 use random::Random;
@@ -25,7 +26,7 @@ pub struct Family {
 /// How a family draws its instances.
 type Draw = fn(&mut Random) -> Instances;
 
-const CHOICE: [(&str, Draw); 7] = [
+const CHOICE: [(&str, Draw); 8] = [
     ("random networks", networks::random_networks),
     ("cliques 8x8", networks::cliques),
     ("pigeonhole by hole", networks::pigeonhole_by_hole),
@@ -33,9 +34,10 @@ const CHOICE: [(&str, Draw); 7] = [
     ("3-SAT", networks::three_sat),
     ("floors rising", networks::floors_rising),
     ("floors random", networks::floors_random),
+    ("worst found", worst::choices),
 ];
 
-const FITTING: [(&str, Draw); 9] = [
+const FITTING: [(&str, Draw); 10] = [
     ("Hanoi", fittings::hanoi),
     ("dock robots", fittings::dock_robots),
     ("refuelling planes", fittings::planes),
@@ -45,6 +47,7 @@ const FITTING: [(&str, Draw); 9] = [
     ("counters", fittings::counters),
     ("toggles", fittings::toggles),
     ("random jobs", fittings::random_jobs),
+    ("worst found", worst::fittings),
 ];
 
 pub fn all(seed: u64) -> Vec<Family> {

@@ -2,6 +2,7 @@
 
 mod check;
 mod families;
+mod growth;
 mod job;
 mod measure;
 mod ours;
@@ -21,7 +22,7 @@ use table::{Figures, Rival, Time, RIVALS};
 
 const SEED: u64 = 20_071_108;
 
-const USAGE: &str = "usage: bench [--family NAME] [--no-peers] [--peers-limit SECONDS] [--quick]";
+const USAGE: &str = "usage: bench [--family NAME] [--no-peers] [--peers-limit SECONDS] [--quick] [--growth]";
 
 struct Options {
     /// Only families whose name has this part.
@@ -31,16 +32,19 @@ struct Options {
     limit: f64,
     /// Every fourth case, and fewer repetitions.
     quick: bool,
+    /// How the cost grows, in place of the families. No peers.
+    growth: bool,
 }
 
 fn options(mut words: impl Iterator<Item = String>) -> Option<Options> {
-    let mut options = Options { family: String::new(), peers: true, limit: 10.0, quick: false };
+    let mut options = Options { family: String::new(), peers: true, limit: 10.0, quick: false, growth: false };
     while let Some(word) = words.next() {
         match word.as_str() {
             "--family" => options.family = words.next()?,
             "--no-peers" => options.peers = false,
             "--peers-limit" => options.limit = words.next()?.parse().ok().filter(|limit| *limit > 0.0)?,
             "--quick" => options.quick = true,
+            "--growth" => options.growth = true,
             _ => return None,
         }
     }
@@ -136,16 +140,20 @@ impl Bench {
     }
 }
 
-/// What the figures are of.
+/// How ours and the twin are measured.
 fn preface(bench: &Bench) {
     let Effort { repetitions, seconds } = bench.effort;
     println!(
         "Ours and the twin: the best of {repetitions} repetitions of at least {} ms each, in turn in one process, from
-the bytes of a job file to the answer; for a choice this is our own partition and then the selection. A column
-\"/\" has the ratio of ours to another: of the totals, and the largest of a single case. Nodes are those of the
-twin's search.",
+the bytes of a job file to the answer; for a choice this is our own partition and then the selection. Nodes are
+those of the twin's search.",
         seconds * 1000.0
     );
+}
+
+/// How the table is read, and what the peers are asked.
+fn legend(bench: &Bench) {
+    println!("A column \"/\" has the ratio of ours to another: of the totals, and the largest of a single case.");
     if let Some(peers) = &bench.peers {
         println!(
             "The peers are processes, whose start is taken off; less than {} ms counts as that. They are only asked
@@ -164,7 +172,7 @@ of more than {SAMPLED} questions they get every {SAMPLED}th, and their time is s
 
 fn run(options: &Options) -> Vec<String> {
     let (repetitions, seconds) = if options.quick { (5, 0.0005) } else { (20, 0.0005) };
-    let peers = options.peers.then(|| Peers::find(Path::new("target/bench/peers")));
+    let peers = (options.peers && !options.growth).then(|| Peers::find(Path::new("target/bench/peers")));
     let mut bench = Bench {
         effort: Effort { repetitions, seconds },
         peers,
@@ -174,6 +182,29 @@ fn run(options: &Options) -> Vec<String> {
         deepest: (0, String::new()),
     };
     preface(&bench);
+    if options.growth {
+        grow(&mut bench);
+    } else {
+        compare(&mut bench, options);
+    }
+    println!("The most stack that a question took: {} bytes, {}\n", bench.deepest.0, bench.deepest.1);
+    bench.faults
+}
+
+fn grow(bench: &mut Bench) {
+    println!("{}\n", growth::legend());
+    for series in growth::all(SEED) {
+        println!("{}\n{}", series.title, growth::head());
+        for (label, instances) in series.points {
+            let figures: Vec<Figures> = cases(instances).iter().map(|case| bench.figures(series.title, case)).collect();
+            println!("{}", growth::row(&label, &figures));
+        }
+        println!();
+    }
+}
+
+fn compare(bench: &mut Bench, options: &Options) {
+    legend(bench);
     println!("{}", table::head());
     let mut worst = String::new();
     let mut kind: Option<Kind> = None;
@@ -188,8 +219,6 @@ fn run(options: &Options) -> Vec<String> {
         worst += &table::worst_cases(family.name, &figures);
     }
     println!("\nThe cases of the largest figures\n{worst}");
-    println!("The most stack that a question took: {} bytes, {}\n", bench.deepest.0, bench.deepest.1);
-    bench.faults
 }
 
 fn main() -> ExitCode {

@@ -97,14 +97,19 @@ fn tower(from: &[usize], to: &[usize]) -> Fitting {
     world.job()
 }
 
+/// From anywhere to anywhere.
+pub fn drawn_tower(random: &mut Random, discs: usize) -> Fitting {
+    let mut pegs = || -> Vec<usize> { (0..discs).map(|_| random.below(3)).collect() };
+    tower(&pegs(), &pegs())
+}
+
 /// Towers of 3 and 4 discs take 7 and 15 rounds; 5 discs take 31, which is beyond any horizon.
 pub fn hanoi(random: &mut Random) -> Instances {
     let mut named = Vec::new();
     for discs in 3..=5 {
         named.push((format!("{discs} discs"), tower(&vec![0; discs], &vec![2; discs])));
         for i in 1..=3 {
-            let mut pegs = || -> Vec<usize> { (0..discs).map(|_| random.below(3)).collect() };
-            named.push((format!("{discs} discs, spread {i}"), tower(&pegs(), &pegs())));
+            named.push((format!("{discs} discs, spread {i}"), drawn_tower(random, discs)));
         }
     }
     and_short(named)
@@ -459,6 +464,13 @@ fn counting(ways: &[(usize, (u64, u64))], down: bool) -> Fitting {
     world.job()
 }
 
+/// Two counters of 4 bits that go up and down, from anywhere to anywhere.
+pub fn drawn_counters(random: &mut Random) -> Fitting {
+    let mut number = || random.below(16) as u64;
+    let ways = [(4, (number(), number())), (4, (number(), number()))];
+    counting(&ways, true)
+}
+
 pub fn counters(_: &mut Random) -> Instances {
     let mut named = Vec::new();
     for down in [false, true] {
@@ -530,6 +542,13 @@ fn goals(random: &mut Random, count: usize, even: bool) -> Vec<u64> {
     goals
 }
 
+/// Two lamps a step, and a goal at random with an odd count of lit lamps, which is out of reach, or an even one.
+pub fn drawn_lamps(random: &mut Random, count: usize, odd: bool) -> Fitting {
+    let goal = random.word() & ((1 << count) - 1);
+    let other = (goal.count_ones() % 2 == 1) != odd;
+    lamps(count, 2, goal ^ u64::from(other))
+}
+
 // Random jobs
 
 fn members(set: u64) -> impl Iterator<Item = usize> {
@@ -538,7 +557,7 @@ fn members(set: u64) -> impl Iterator<Item = usize> {
 
 /// 32 facts, and 32 steps that each lead from a fact to the next. A step may need facts before that, gives one more,
 /// and takes some. Some facts hold first, and some are the goal.
-fn chain(random: &mut Random, needs: usize, takes: usize, goals: usize) -> Fitting {
+pub fn chain(random: &mut Random, needs: usize, takes: usize, goals: usize) -> Fitting {
     let steps = (0..32usize)
         .map(|i| Step {
             needs: (random.subset(needs.min(i), i) | 1 << i) as u32,
@@ -552,7 +571,7 @@ fn chain(random: &mut Random, needs: usize, takes: usize, goals: usize) -> Fitti
 
 /// Variables with values, a fact a value, and two steps for each: they change this value of the variable to another, if
 /// so many other variables have the values that the step asks for. The goal has a value a variable.
-fn valued(random: &mut Random, variables: usize, values: usize, asked: usize) -> Fitting {
+pub fn valued(random: &mut Random, variables: usize, values: usize, asked: usize) -> Fitting {
     let fact = |variable: usize, value: usize| 1u32 << (values * variable + value);
     let mut steps = Vec::new();
     for (variable, from) in (0..2 * variables * values).map(|i| (i / 2 / values, i / 2 % values)) {

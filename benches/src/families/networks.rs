@@ -45,25 +45,25 @@ const ARTICLES: usize = 64;
 
 /// The clique of each article. The paper's cliques have some 20 of 120 articles; here 1 to 20 of 64. Articles that are
 /// left over once so many cliques stand are each alone.
-fn cliques_of(random: &mut Random, most: usize) -> Vec<usize> {
+fn cliques_of(random: &mut Random, articles: usize, most: usize) -> Vec<usize> {
     let mut clique = Vec::new();
     for number in 0..most {
         let size = 1 + random.below(20);
-        clique.extend(vec![number; size.min(ARTICLES - clique.len())]);
+        clique.extend(vec![number; size.min(articles - clique.len())]);
     }
-    let alone = ARTICLES - clique.len();
+    let alone = articles - clique.len();
     clique.extend((0..alone).map(|i| most + i));
     clique
 }
 
 /// As the paper has it: normal(8, 6) wishes an article, and each edge besides with probability m.
-fn random_network(random: &mut Random, wishes: usize, cliques: usize, m: f64) -> Choice {
+fn random_network(random: &mut Random, articles: usize, wishes: usize, cliques: usize, m: f64) -> Choice {
     let mut drawn = || {
         let size = random.normal(8.0, 6.0).round().clamp(1.0, wishes as f64);
         random.subset(size as usize, wishes)
     };
-    let carried: Vec<u64> = (0..ARTICLES).map(|_| drawn()).collect();
-    let clique = cliques_of(random, cliques);
+    let carried: Vec<u64> = (0..articles).map(|_| drawn()).collect();
+    let clique = cliques_of(random, articles, cliques);
     let mut job = network(wishes, &carried);
     clash_where(&mut job, |a, b| clique[a] == clique[b] || random.chance(m));
     job
@@ -81,10 +81,16 @@ pub fn random_networks(random: &mut Random) -> Instances {
         for (wishes, most) in GOALS {
             let cliques = if most < ARTICLES { format!("{most} cliques") } else { "only cliques".into() };
             let label = format!("m {m}, {wishes} wishes, {cliques}");
-            instances.push(smallest(label, random_network(random, wishes, most, m)));
+            instances.push(smallest(label, random_network(random, ARTICLES, wishes, most, m)));
         }
     }
     instances
+}
+
+/// A network of so many articles and wishes, by cliques alone.
+pub fn of_size(random: &mut Random, articles: usize, wishes: usize) -> Question {
+    let m = EDGES[random.below(EDGES.len())];
+    Question::Choose { job: random_network(random, articles, wishes, articles, m), floor: 0 }
 }
 
 // Cliques
@@ -201,7 +207,7 @@ fn with_selection(mut draw: impl FnMut() -> Choice) -> Choice {
 }
 
 pub fn floors_rising(random: &mut Random) -> Instances {
-    let network = with_selection(|| random_network(random, 24, 64, 0.02));
+    let network = with_selection(|| random_network(random, ARTICLES, 24, 64, 0.02));
     let cliques = with_selection(|| clique_network(random, 0.3));
     let formula = with_selection(|| formula(random, 20, 64));
     let named = [("random network", network), ("cliques 8x8", cliques), ("3-SAT, 20 variables", formula)];
@@ -219,7 +225,7 @@ pub fn floors_random(random: &mut Random) -> Instances {
     for i in 1..=20 {
         let (wishes, cliques) = GOALS[i % GOALS.len()];
         let m = EDGES[i % EDGES.len()];
-        let job = with_selection(|| random_network(random, wishes, cliques, m));
+        let job = with_selection(|| random_network(random, ARTICLES, wishes, cliques, m));
         for floor in floors(random) {
             instances.push((format!("network {i}, floor {floor:#018x}"), Question::Choose { job: job.clone(), floor }));
         }
