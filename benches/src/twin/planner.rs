@@ -7,12 +7,15 @@ use super::states;
 use super::{members, transposed, Counts};
 
 const SLOTS: usize = 8191;
+/// From so many nogoods on a search is long.
+const MANY: usize = 1024;
 const ALL: u64 = 0xffff_ffff;
 
 /// Sets of facts that so many rounds do not reach.
 struct Nogoods {
     slots: Vec<(usize, u64)>,
-    next: usize,
+    /// Where the last was stored, from 1 on.
+    last: usize,
 }
 
 impl Nogoods {
@@ -24,9 +27,9 @@ impl Nogoods {
         if self.slots.len() < SLOTS {
             self.slots.push((k, facts));
         } else {
-            self.slots[self.next] = (k, facts);
-            self.next = (self.next + 1) % SLOTS;
+            self.slots[self.last % SLOTS] = (k, facts);
         }
+        self.last = self.last % SLOTS + 1;
     }
 }
 
@@ -78,6 +81,26 @@ impl Search<'_> {
         result
     }
 
+    /// Of facts that k rounds do not reach, some that they do not reach either: one after the other is dropped where that
+    /// can be. It is worth its searches only where they are newly refuted, after the nogood `before`, and many are
+    /// stored.
+    fn dropped(&mut self, k: usize, refuted: u64, before: usize) -> u64 {
+        let mut least = refuted;
+        if self.nogoods.last == before || self.nogoods.last < MANY {
+            return least;
+        }
+        let mut left = refuted;
+        while left != 0 && least.count_ones() > 3 {
+            let b = left & left.wrapping_neg();
+            left &= !b;
+            if let Err(e) = self.extract(k, least & !b) {
+                least = e;
+                left &= e;
+            }
+        }
+        least
+    }
+
     /// As extract, of the selections whose needs lie in `may` and include `must`; the facts are with those of `why`.
     fn within(&mut self, k: usize, goal: u64, may: u64, must: u64, why: u64) -> Result<(), u64> {
         let needs = self.needs;
@@ -85,10 +108,12 @@ impl Search<'_> {
         let Some(selection) = self.ask(k, open, goal) else {
             return Err(self.explain(k, open, goal, why));
         };
+        let before = self.nogoods.last;
         let Err(c) = self.extract(k - 1, gather(needs, selection)) else {
             self.plan[k - 1] = (selection >> 32) as u32;
             return Ok(());
         };
+        let c = self.dropped(k - 1, c, before);
         let (mut kept, mut reason) = (must, why);
         for f in members(c & !must) {
             reason = match self.within(k, goal, may & !(1 << f), kept, reason) {
@@ -116,15 +141,15 @@ fn round_layers(job: &Fitting, vertices: &Vertices) -> Vec<(u64, Tables)> {
 pub fn plan(job: &Fitting, rounds: &mut [u32], counts: &mut Counts) -> Option<usize> {
     let vertices = Vertices::new(job);
     let layers = round_layers(job, &vertices);
-    let nogoods = Nogoods { slots: Vec::new(), next: 0 };
+    let nogoods = Nogoods { slots: Vec::new(), last: 0 };
     let mut search = Search { needs: &vertices.needs, layers, start: job.start, plan: [0; 16], nogoods, counts };
     for k in 0..=job.horizon {
-        let before = search.nogoods.slots.len();
+        let before = search.nogoods.last;
         if search.extract(k, job.goal).is_ok() {
             rounds[..k].copy_from_slice(&search.plan[..k]);
             return Some(k);
         }
-        if before < 64 && 64 <= search.nogoods.slots.len() && states::hopeless(job) {
+        if before < 64 && 64 <= search.nogoods.last && states::hopeless(job) {
             return None;
         }
     }

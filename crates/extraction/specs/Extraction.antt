@@ -54,6 +54,10 @@ pub record Fine (T : Graph) (carriers : List ℕ) : Type 0 where
   pub tabled : (j : ℕ) → j < length (T .members) → Tabled 64 (T .gives) (rowOf (T .words) j) carriers
   pub grows : (k r g : ℕ) → k ≤ r → r ≤ length (T .members) → Back T k g → Back T r g
 
+-- facts of g that no k rounds reach
+abbrev pub Unreached : Graph → ℕ → ℕ → ℕ → Type 0
+Unreached T k g e = (e ⊆ g) × (Back T k e → ⊥)
+
 -- ---- nogoods
 
 -- an entry of the table, from 1 on, is a count of rounds r and a set of facts, packed as r * 2 ^ 32 + set; where r is not 0, no r rounds reach the set

@@ -5,7 +5,7 @@ ghost use Prim.Native.Nat.{_/_, _^_, _≤_};
 ghost use lib.Dec.{eqb};
 ghost use lib.ListN.{length};
 ghost use Rattle.sets.specs.Sets.{_⊆_};
-ghost use Rattle.extraction.specs.Extraction.{graph, Fine, Nogoods, Extracted};
+ghost use Rattle.extraction.specs.Extraction.{graph, Fine, Nogoods, Unreached, Extracted};
 
 mod nogoods;
 
@@ -33,6 +33,72 @@ fn whole(may: u64, all: u64, must: u64) -> bool
         return false;
     }
     must == 0
+}
+
+// The facts that may still be dropped: of those left, those that are still refuted; none where three
+// or fewer are refuted.
+fn trials(left: u64, refuted: u64) -> u64
+    ensures { λ r. ⌜ (r ⊆ left) × (r ⊆ refuted) ⌝ }
+{
+    if word::count(refuted) <= 3 {
+        return 0;
+    }
+    left & refuted
+}
+
+// Of facts that j rounds do not reach, some that they do not reach either: one after the other is
+// dropped where that can be. It is worth its searches only where they are newly refuted, after the
+// nogoods `before`, and many are stored.
+fn dropped(
+    needs: &[u64; 64],
+    gives: &[u64; 64],
+    carriers: &[u64; 64],
+    members: &[u64],
+    words: &[u64],
+    start: u64,
+    all: u64,
+    plan: &mut [u32],
+    table: &mut [u64],
+    j: usize,
+    refuted: u64,
+    before: u64,
+) -> u64
+    requires { ⌜ Fine (graph (now needs) (now gives) (now members) (now words) start all) (now carriers) × Nogoods (graph (now needs) (now gives) (now members) (now words) start all) (now table) ⌝ }
+    requires { ⌜ (j ≤ length (now members)) × (j ≤ length (now plan)) × Unreached (graph (now needs) (now gives) (now members) (now words) start all) j all refuted ⌝ }
+    ensures { λ r. ⌜ (r ⊆ refuted) × Unreached (graph (now (needs .entry)) (now (gives .entry)) (now (members .entry)) (now (words .entry)) start all) j all r × Nogoods (graph (now (needs .entry)) (now (gives .entry)) (now (members .entry)) (now (words .entry)) start all) (now (table .exit)) ⌝ }
+{
+    if !nogoods::many(table, before) {
+        return refuted;
+    }
+    let mut least = refuted;
+    let mut left = trials(refuted, refuted);
+    while left != 0 {
+        let b = word::lowest(left);
+        let others = word::less(left, b);
+        let inner = extract(
+            needs,
+            gives,
+            carriers,
+            members,
+            words,
+            start,
+            all,
+            plan,
+            table,
+            j,
+            word::less(least, b),
+            all,
+            0,
+            0,
+        );
+        left = others;
+        let Outcome::Refuted(e) = inner else {
+            continue;
+        };
+        least = e;
+        left = trials(others, e);
+    }
+    least
 }
 
 // A plan of k rounds for the goal, in the words 0 to k - 1. Or facts of the goal, with those of `why`,
@@ -80,6 +146,7 @@ pub fn extract(
         return Outcome::Refuted(e);
     };
     let wanted = word::gather(needs, selection);
+    let before = nogoods::stored(table);
     let below = extract(
         needs,
         gives,
@@ -96,10 +163,24 @@ pub fn extract(
         0,
         0,
     );
-    let Outcome::Refuted(c) = below else {
+    let Outcome::Refuted(refuted) = below else {
         plan[j] = steps_of(selection);
         return Outcome::Made;
     };
+    let c = dropped(
+        needs,
+        gives,
+        carriers,
+        members,
+        words,
+        start,
+        all,
+        plan,
+        table,
+        j,
+        refuted,
+        before,
+    );
     let mut left = word::without(c, must);
     let mut kept = must;
     let mut reason = why;

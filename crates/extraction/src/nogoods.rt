@@ -4,6 +4,24 @@ ghost use Rattle.extraction.specs.Extraction.{Noted, StoredIf};
 use crate::Outcome;
 use sets::word;
 
+// Where the last was stored; 0 where none was.
+pub fn stored(table: &[u64]) -> u64 {
+    if table.len() == 0 {
+        return 0;
+    }
+    table[0]
+}
+
+// Whether one was stored since, and many are: then the search is long, and it pays to make what is
+// stored stronger.
+pub fn many(table: &[u64], before: u64) -> bool {
+    let last = stored(table);
+    if last == before {
+        return false;
+    }
+    1024 <= last
+}
+
 // An entry for k rounds or more whose facts are all among these. Nothing is looked up where `on` is
 // false.
 pub fn lookup(table: &[u64], k: usize, facts: u64, on: bool) -> Outcome
