@@ -5,7 +5,7 @@
 
 It takes the examples of docs/RULES.md, those without a star first, then all small files of a sort, drawn ones, wide ones, at
 the edge of the words, and damaged ones: cut at every place, with single bytes changed, lengthened, over their limits, with
-forbidden bits. The same files come in every run. A difference is printed, and ends it with status 1; otherwise it prints how
+forbidden bits; and some whose plan is long looked for. The same files come in every run. A difference is printed, and ends it with status 1; otherwise it prints how
 much was compared, and what of it mattered. --fault makes the second program err on purpose (FAULTS in rules.py): then a
 difference has to be found.
 """
@@ -21,6 +21,7 @@ from drawn import damaged, drawn_choice, drawn_fitting, drawn_name, over_limits,
 from layers import G, H
 from layers import drawn as full_fitting
 from library import Library, slices
+from long import LONG
 from reader import BASES, CHOICE, FITTING, A, Refused, counts, written
 from rules import number, of
 
@@ -217,6 +218,9 @@ def run(beside):
         for job in (drawn_choice(draw), drawn_fitting(draw)):
             for file in damaged(written(job), draw):
                 beside.reading(file)
+    for file in LONG.values():
+        beside.plan(file, 16)
+        beside.tally["long searches"] += 1
 
 
 def main():

@@ -249,7 +249,7 @@ def beside():
     wanted = [f"refused {n}" for n in range(1, 17)] + [f"plans of {n}" for n in range(6)] + ["plans with step 31"]
     wanted += ["passes that struck", "floors that mattered", "choices that set aside", "layers with mutexes"]
     wanted += ["choices of article 63", "choices that set article 63 aside"]
-    wanted += ["names given", "names found", "alike though not the same", "null slices"]
+    wanted += ["names given", "names found", "alike though not the same", "null slices", "long searches"]
     counts = counted(printed, wanted)
     demand(counts["comparisons"] >= 20_000, f"only {counts['comparisons']} comparisons")
     demand(seconds < 180, f"the comparisons took {seconds:.0f} seconds")
