@@ -1,0 +1,395 @@
+"""Choice and fitting for cabinet shops, from Python: jobs built and read, and the proved calls on job files.
+
+    import kitchen
+
+    job = kitchen.choice(2, {0, 1}, [kitchen.article({0}, name="Larder"), kitchen.article({1}, name="Smooth front")])
+    shop = kitchen.Library()
+    answer = shop.choose(kitchen.written(job))
+    if answer is kitchen.NoSelection:
+        print("no such kitchen")
+    else:
+        print(sorted(answer.articles))
+
+A job file is bytes; docs/RULES.md says how it is laid out, and include/kitchen.h what each call takes and answers. Sets
+are Python sets of numbers. `NoSelection` and `NoPlan` are answers. `Refused(number, place)` is raised where a call is
+turned down, and `Unusable` where a job cannot be written or the library cannot be used.
+
+What is built, written and read here is plain Python and only tested; what `Library` answers is what the proved calls
+answered for these very bytes.
+"""
+
+import ctypes
+import pathlib
+from collections import namedtuple
+
+# The number of the interface in include/kitchen.h. A library of another number is not used.
+VERSION = 2
+
+# A kind of job: its first byte and word, its records and what sets are counted against, the limit of both counts, the
+# limit of the horizon if there is one, the bytes of a set, the sets of its head and those of a record.
+Kind = namedtuple("Kind", "byte word record records member members limit horizon width heads fields")
+CHOICE = Kind(67, "choice", "article", "articles", "wish", "wishes", 64, None, 8, ("order",), ("wishes", "clashes"))
+FITTING = Kind(
+    70, "fitting", "step", "steps", "fact", "facts", 32, 16, 4, ("start", "goal"), ("needs", "gives", "takes")
+)
+KINDS = (CHOICE, FITTING)
+LONGEST_NAME = 32
+
+# A job: its kind, how many wishes or facts there are, the horizon (None for a choice), the sets of its head in the order
+# of `heads`, and its records, each with the sets in the order of `fields` and its name, as bytes.
+Job = namedtuple("Job", "kind members horizon sets records")
+Record = namedtuple("Record", "sets name")
+
+# What is answered. Both of a selection are sets of articles; the rounds of a plan are sets of steps, in order.
+Selection = namedtuple("Selection", "articles aside")
+Plan = namedtuple("Plan", "rounds")
+
+
+class Answer:
+    """An answer without a value."""
+
+    def __init__(self, name):
+        self.name = name
+
+    def __repr__(self):
+        return self.name
+
+
+NoSelection, NoPlan = Answer("NoSelection"), Answer("NoPlan")
+NO_SELECTION, NO_PLAN, NO_NAME = 14, 15, 16  # their numbers in docs/RULES.md
+
+
+class Refused(Exception):
+    """A call is turned down, with the number and the place of docs/RULES.md."""
+
+    def __init__(self, number, place):
+        super().__init__(f"refused {number} at {place}")
+        self.number, self.place = number, place
+
+
+class Unusable(Exception):
+    """A job that no file can state, or a library that is missing or of another version."""
+
+
+# ---- jobs
+
+
+def named(name):
+    return name.encode() if isinstance(name, str) else bytes(name)
+
+
+def article(wishes=(), clashes=(), name=b""):
+    return Record([set(wishes), set(clashes)], named(name))
+
+
+def step(needs=(), gives=(), takes=(), name=b""):
+    return Record([set(needs), set(gives), set(takes)], named(name))
+
+
+def choice(wishes, order, articles):
+    """A job with so many wishes. A clash may be said at either of two articles; a file says it at the later."""
+    clashes = [set() for _ in articles]
+    for number, record in enumerate(articles):
+        for other in record.sets[1]:
+            low, high = sorted((number, other))
+            if low < 0 or high >= len(articles) or low == high:
+                raise Unusable(f"article {number} cannot clash with {other}")
+            clashes[high].add(low)
+    records = [Record([set(record.sets[0]), clash], record.name) for record, clash in zip(articles, clashes)]
+    return usable(Job(CHOICE, wishes, None, [set(order)], records))
+
+
+def fitting(facts, horizon, start, goal, steps):
+    """A job with so many facts."""
+    return usable(Job(FITTING, facts, horizon, [set(start), set(goal)], list(steps)))
+
+
+def usable(job):
+    """The job itself, if a file can state it."""
+    kind = job.kind
+    for count, what, limit in (
+        (len(job.records), kind.records, kind.limit),
+        (job.members, kind.members, kind.limit),
+        (job.horizon or 0, "rounds of the horizon", kind.horizon or 0),
+    ):
+        if not 0 <= count <= limit:
+            raise Unusable(f"{count} {what}; a {kind.word} has 0 to {limit}")
+    heads = [(f"the {word}", members, job.members) for word, members in zip(kind.heads, job.sets)]
+    for number, record in enumerate(job.records):
+        if len(record.name) > LONGEST_NAME:
+            raise Unusable(f"the name of {kind.record} {number} has {len(record.name)} bytes; at most {LONGEST_NAME} do")
+        for word, members in zip(kind.fields, record.sets):
+            bound = number if word == "clashes" else job.members
+            heads.append((f"the {word} of {kind.record} {number}", members, bound))
+    for what, members, bound in heads:
+        for member in members:
+            if not 0 <= member < bound:
+                raise Unusable(f"{what}: there is no {member} below {bound}")
+    return job
+
+
+# ---- writing a job file
+
+
+def stored(members, width):
+    """A set as a number of that many bytes, the lowest first."""
+    return number_of(members).to_bytes(width, "little")
+
+
+def record_bytes(record, width):
+    """The bit map, and the fields that it marks: those that are not empty."""
+    fields = [stored(members, width) if members else b"" for members in record.sets]
+    fields.append(bytes([len(record.name)]) + record.name if record.name else b"")
+    return bytes([sum(1 << bit for bit, field in enumerate(fields) if field)]) + b"".join(fields)
+
+
+def written(job):
+    """The file of a job."""
+    kind = usable(job).kind
+    counts = [len(job.records), job.members] + ([] if kind.horizon is None else [job.horizon])
+    sets = [stored(members, kind.width) for members in job.sets]
+    records = [record_bytes(record, kind.width) for record in job.records]
+    return bytes([kind.byte, *counts]) + b"".join(sets + records)
+
+
+# ---- reading a job file
+
+# What stands where: the first byte, how many there are, what they hold, the record or None, and for a set the number
+# that its members have to be below; None for all else.
+Item = namedtuple("Item", "place width what record bound")
+
+
+class Reader:
+    """Reads a job file item by item, and notes the items. It has a job in the end, or a refusal at the last item."""
+
+    def __init__(self, file):
+        self.file, self.at, self.items = file, 0, []
+        self.kind = self.job = self.refusal = None
+        try:
+            self.job = self.read()
+        except Refused as refusal:
+            self.refusal = refusal
+
+    def item(self, width, what, record=None, bound=None):
+        place = self.at
+        self.items.append(Item(place, width, what, record, bound))
+        if place + width > len(self.file):
+            raise Refused(2, len(self.file))
+        self.at += width
+        return self.file[place : self.at]
+
+    def count(self, what, limit):
+        place, count = self.at, self.item(1, what)[0]
+        if count > limit:
+            raise Refused(3, place)
+        return count
+
+    def marks(self, number):
+        """The bits of a record's bit map, a truth value for each set and one for the name."""
+        width = len(self.kind.fields) + 1
+        place, bits = self.at, self.item(1, "the bit map", number)[0]
+        if bits >> width:
+            raise Refused(4, place)
+        return [bits >> bit & 1 == 1 for bit in range(width)]
+
+    def members(self, what, bound, record=None):
+        """A set whose members are below the bound. Only sets of the head may be empty."""
+        place, number = self.at, int.from_bytes(self.item(self.kind.width, what, record, bound), "little")
+        if record is not None and number == 0:
+            raise Refused(5, place)
+        if number >> bound:
+            raise Refused(6, place)
+        return members_of(number)
+
+    def name(self, number):
+        place, length = self.at, self.item(1, "the length of the name", number)[0]
+        if length == 0:
+            raise Refused(5, place)
+        if length > LONGEST_NAME:
+            raise Refused(7, place)
+        return self.item(length, "the name", number)
+
+    def record(self, number, members):
+        *marked, named = self.marks(number)
+        sets = []
+        for what, present in zip(self.kind.fields, marked):
+            bound = number if what == "clashes" else members
+            sets.append(self.members(f"the {what}", bound, number) if present else set())
+        return Record(sets, self.name(number) if named else b"")
+
+    def read(self):
+        self.kind = next((kind for kind in KINDS if self.file[:1] == bytes([kind.byte])), None)
+        if self.kind is None:
+            self.items.append(Item(0, 1, "the kind", None, None))
+            raise Refused(1, 0)
+        kind = self.kind
+        self.item(1, "the kind")
+        count = self.count(f"the count of {kind.records}", kind.limit)
+        members = self.count(f"the count of {kind.members}", kind.limit)
+        horizon = None if kind.horizon is None else self.count("the horizon", kind.horizon)
+        sets = [self.members(f"the {what}", members) for what in kind.heads]
+        records = [self.record(number, members) for number in range(count)]
+        if self.at < len(self.file):
+            raise Refused(8, self.at)
+        return Job(kind, members, horizon, sets, records)
+
+
+def read(file):
+    """The job that a file states."""
+    reader = Reader(file)
+    if reader.refusal:
+        raise reader.refusal
+    return reader.job
+
+
+# ---- sets
+
+
+def number_of(members):
+    """The number of a set: the sum of 2^i over its members i."""
+    return sum(1 << member for member in set(members))
+
+
+def members_of(number):
+    return {member for member in range(number.bit_length()) if number >> member & 1}
+
+
+# ---- the proved calls
+
+FACT_WORDS, ROUND_WORDS = 32, 64  # the mutex words of a fact layer and of a round layer
+LARGEST = 2**64 - 1
+
+
+def library_path():
+    """Where the library stands in the project, built by tools/library, and where in an unpacked distribution."""
+    root = pathlib.Path(__file__).resolve().parent.parent
+    paths = [root / "target" / "lib" / "libkitchen.so", root / "lib" / "libkitchen.so"]
+    return next((path for path in paths if path.exists()), None)
+
+
+def word(number):
+    """A number as the C interface takes it; none is cut to 64 bits in silence."""
+    if not 0 <= number <= LARGEST:
+        raise Unusable(f"{number} is not a number from 0 to 2^64 - 1")
+    return ctypes.c_uint64(number)
+
+
+class Library:
+    """The shared library, with a method for each call. A path may be given; otherwise it is looked for."""
+
+    def __init__(self, path=None):
+        path = library_path() if path is None else pathlib.Path(path).resolve()
+        if path is None:
+            raise Unusable("libkitchen.so is missing; build it with tools/library")
+        try:
+            self.library = ctypes.CDLL(str(path))
+            version = self.library.kitchen_version
+        except (OSError, AttributeError) as trouble:
+            raise Unusable(f"{path} is no library of ours: {trouble}") from None
+        version.restype = ctypes.c_uint32
+        self.version = version()
+        if self.version != VERSION:
+            raise Unusable(f"{path} has the interface {self.version}; this module is for {VERSION}")
+
+    def call(self, name, *arguments):
+        """The status and the two words. Bytes and arrays are slices: a pointer and a length."""
+        passed = []
+        for argument in arguments:
+            if isinstance(argument, int):
+                passed.append(word(argument))
+            else:
+                passed += [argument, ctypes.c_size_t(len(argument))]
+        out = (ctypes.c_uint64 * 2)()
+        function = getattr(self.library, f"kitchen_{name}")
+        function.restype = ctypes.c_uint32
+        return function(*passed, out), out[0], out[1]
+
+    def answered(self, name, *arguments):
+        """The two words of an answer."""
+        status, first, second = self.call(name, *arguments)
+        if status:
+            raise Refused(status, first)
+        return first, second
+
+    # -- choice files
+
+    def partition(self, file):
+        """The group of each article, by our own partition; a byte for each of 64 articles, of which the file's count."""
+        groups = (ctypes.c_uint8 * CHOICE.limit)()
+        self.answered("partition", file, groups)
+        return bytes(groups)[: file[1]]
+
+    def filter_pass(self, file, live, goal, groups=None):
+        """The live articles that are supported. Without groups our own partition is lent."""
+        groups = self.partition(file) if groups is None else bytes(groups)
+        return members_of(self.answered("pass", file, groups, number_of(live), number_of(goal))[0])
+
+    def choose(self, file, floor=0, goals=None, groups=None):
+        """The selection with the smallest number at or above the floor, with its set aside; or NoSelection.
+
+        Without groups our own partition is lent; without goals the whole order is the only one (none if it is empty).
+        """
+        groups = self.partition(file) if groups is None else bytes(groups)
+        if goals is None:
+            order = read(file).sets[0]
+            goals = [order] if order else []
+        lent = (ctypes.c_uint64 * len(goals))(*(word(number_of(goal)).value for goal in goals))
+        status, first, second = self.call("choose", file, groups, lent, floor)
+        if status == NO_SELECTION:
+            return NoSelection
+        if status:
+            raise Refused(status, first)
+        return Selection(members_of(first), members_of(second))
+
+    def selections(self, file, floor=0):
+        """All selections at or above the floor, by rising number. There may be very many: take as many as are wanted."""
+        while floor <= LARGEST:
+            answer = self.choose(file, floor)
+            if answer is NoSelection:
+                return
+            yield answer
+            floor = number_of(answer.articles) + 1
+
+    # -- fitting files
+
+    def plan(self, file):
+        """A plan with as few rounds as can be, or NoPlan."""
+        rounds = (ctypes.c_uint32 * FITTING.horizon)()
+        status, first, _ = self.call("plan", file, rounds)
+        if status == NO_PLAN:
+            return NoPlan
+        if status:
+            raise Refused(status, first)
+        return Plan([members_of(rounds[number]) for number in range(first)])
+
+    def fact_layer(self, file, layer):
+        """The facts of a layer, and for each of 32 facts those that it is mutex with."""
+        words = (ctypes.c_uint32 * FACT_WORDS)()
+        facts, _ = self.answered("fact_layer", file, layer, words)
+        return members_of(facts), [members_of(number) for number in words]
+
+    def round_layer(self, file, layer):
+        """The vertices of a layer (keeper t is t, step a is 32 + a), and for each of 64 those that it is mutex with."""
+        words = (ctypes.c_uint64 * ROUND_WORDS)()
+        vertices, _ = self.answered("round_layer", file, layer, words)
+        return members_of(vertices), [members_of(number) for number in words]
+
+    # -- either kind
+
+    def name(self, file, number):
+        """The name of an article or step, a part of the file's bytes; empty where there is none."""
+        start, length = self.answered("name", file, number)
+        return file[start : start + length]
+
+    def find(self, file, name):
+        """The lowest article or step with this name, or None."""
+        status, first, _ = self.call("find", file, named(name))
+        if status == NO_NAME:
+            return None
+        if status:
+            raise Refused(status, first)
+        return first
+
+    def alike(self, a, b):
+        """Whether two choice files agree in all but their names."""
+        return self.answered("compare", a, b)[0] == 1

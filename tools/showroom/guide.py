@@ -1,0 +1,80 @@
+"""What `tools/job --help` says."""
+
+import textwrap
+
+CHOICE_EXAMPLE = """\
+choice
+wishes: corner larder, no handles
+order: corner larder, no handles
+article Larder unit 60
+  wishes: corner larder
+# a clash is written at the later of the two articles
+article Smooth front
+  wishes: no handles
+  clashes: Larder unit 60
+"""
+FITTING_EXAMPLE = """\
+fitting
+horizon: 4
+facts: walls dry, units hung, worktop fitted
+start: walls dry
+goal: worktop fitted
+step Hang the units
+  needs: walls dry
+  gives: units hung
+step Fit the worktop
+  needs: units hung
+  gives: worktop fitted
+"""
+SUMMARY = """\
+From a text to an answer: a kitchen for an order, or the rounds of its fitting, by the proved program `kitchen`.
+"""
+
+
+def indented(text):
+    return textwrap.indent(text.rstrip(), "  ")
+
+
+GUIDE = f"""\
+A text for a choice, for example:
+
+{indented(CHOICE_EXAMPLE)}
+
+With that in larder.txt, `tools/job ask larder.txt` tells that no such kitchen exists, and `tools/job advise larder.txt`
+why. A text for a fitting:
+
+{indented(FITTING_EXAMPLE)}
+
+jobs/ has longer ones.
+
+Which kitchen comes:
+  Of several kitchens the one with the smallest number comes, so what stands first in the text is preferred.
+
+How a text is written:
+- The first line is `choice` or `fitting`. A choice goes on with `wishes:` and `order:`, then has its articles; a
+  fitting goes on with `horizon:`, `facts:`, `start:` and `goal:`, then has its steps.
+- `article NAME` or `article` opens an article, which has `wishes:` and `clashes:`. `step NAME` or `step` opens a
+  step, which has `needs:`, `gives:` and `takes:`. These fields may be left out, the others may not. Lines may be
+  indented.
+- Wishes, facts, articles and steps are numbered from 0, in the order of the text. `wishes:` and `facts:` of the head
+  give names to wishes and facts; the job file has only their count.
+- Behind a colon stands a list: names, or numbers as `#3`, with commas between them. An empty list is the empty set.
+  A list that ends with a comma goes on in the next line.
+- An article names those above it that it clashes with: a clash is written once, at the later of the two.
+- A name with `#`, a quotation mark, a character that does not print, or a blank at its end is quoted, and in a list
+  also one with a comma: "Oven, 60 cm". Inside, \\" and \\\\ stand for the two characters themselves, and \\xE4 for the
+  byte E4. A letter with a mark may be typed as one character or as two: a list finds the name either way.
+- A comment is a line of its own that begins with `#` and no digit behind it.
+
+Limits:
+  a choice   64 articles, 64 wishes
+  a fitting  32 steps, 32 facts, a horizon of 16 rounds
+  a name     32 bytes of an article or step; a letter such as ä has 2
+
+Status:
+  0  there is a kitchen, there is a plan; or what was asked for is done
+  1  a text or file is at fault, or there is no answer: kitchen is missing, was ended, or printed what cannot be its answer
+  2  the tool was called in another way than it can be
+  3  there is none: "no such kitchen", "no such plan"
+  Of several texts: 1 if one failed, else 3 if one has none.
+"""

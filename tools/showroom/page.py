@@ -1,0 +1,5 @@
+"""The answer as one page without scripts."""
+
+
+def page(title, text, answer, advice):
+    return ""

@@ -1,0 +1,176 @@
+"""Refusals in words: what a reason means, and what stands at its place in a file."""
+
+from kitchen import CHOICE
+from showroom.words import called, counted, quoted, series
+
+NO_KITCHEN = (
+    "No such kitchen exists: whatever articles are put together, a wish of the order is not covered, or two of the "
+    "articles exclude each other. At least one wish has to be given up, or the catalogue has to change."
+)
+NO_PLAN = (
+    "No such plan exists: whatever steps are done in whatever rounds, the goal is not reached within {}. "
+    "Either the horizon has too few rounds, or these steps cannot reach the goal at all."
+)
+# What is wrong, what the place is (None where it is always 0 and says nothing), and a remark.
+REASONS = {
+    1: (
+        "the file is empty, or is not of the kind that the call takes",
+        "always 0, the first byte",
+        "A choice file begins with the byte 67, a capital C, and a fitting file with 70, a capital F. "
+        "A text is no job file: make one from it with tools/job write.",
+    ),
+    2: (
+        "the file ends before an item is complete",
+        "the length of the file",
+        "The file was cut off, or a count, a bit map or a length in it stands for more than the file has.",
+    ),
+    3: (
+        "a count or the horizon exceeds its limit",
+        "that byte",
+        "A choice has at most 64 articles and 64 wishes; a fitting has at most 32 steps, 32 facts and 16 rounds.",
+    ),
+    4: (
+        "a bit map has a bit that must be 0",
+        "that byte",
+        "An article has the bits 0 to 2, for wishes, clashes and name; a step has the bits 0 to 3, for needs, gives, "
+        "takes and name.",
+    ),
+    5: (
+        "a record's field is present and zero, or a name has length 0",
+        "the first byte of the field, or the length byte",
+        "An empty set is left out, and so is a missing name; its bit in the bit map is then 0.",
+    ),
+    6: (
+        "a set has a member that the file does not have, or an article clashes with a number that is not lower than "
+        "its own",
+        "the first byte of the set",
+        "Wishes, facts and articles are numbered from 0. Of two articles that clash, the one with the higher number "
+        "names the other.",
+    ),
+    7: (
+        "a name is longer than 32 bytes",
+        "the length byte",
+        "Bytes are counted, not letters: ä, ö, ü and ß have 2 bytes each.",
+    ),
+    8: (
+        "something stands behind the last record",
+        "the first byte too many",
+        "The count of articles or steps is too small, or something was added to the file.",
+    ),
+    9: (
+        "a layer number is out of range",
+        None,
+        "Fact layers go from 0 to the horizon, and round layers from 1 to the horizon.",
+    ),
+    10: (
+        "a lent buffer is too short",
+        None,
+        "A partition has a byte for each article, a plan a word for each round of the horizon, a fact layer 32 words, "
+        "and a round layer 64.",
+    ),
+    11: (
+        "a lent partition is false: a group byte is n or more, or two articles that do not clash share a group",
+        "the lowest article that has such a byte, or that does not clash with a lower one of its group",
+        "Here n is the count of articles.",
+    ),
+    12: (
+        "the live set has an article that the file does not have",
+        None,
+        "Its members have to be lower than the count of articles.",
+    ),
+    13: (
+        "a projection goal is empty, or has a wish that the order lacks",
+        "the index of the first such goal, and 0 where there is only one goal",
+        "A goal has at least one wish, and wishes of the order only.",
+    ),
+    14: (
+        "no selection at or above the floor exists",
+        None,
+        "The file is in order. With the floor 0, as in the program kitchen, this means: " + NO_KITCHEN,
+    ),
+    15: ("no plan within the horizon exists", None, "The file is in order. " + NO_PLAN.format("the horizon")),
+    16: (
+        "no article or step has that name",
+        None,
+        "The file is in order. Names are compared byte by byte, so capitals and blanks count.",
+    ),
+}
+
+
+def owner(reader, item):
+    """The record that an item is part of, with its name if the reading came to that."""
+    if item.record is None:
+        return ""
+    text = f" of {reader.kind.record} {item.record}"
+    for other in reader.items:
+        end = other.place + other.width
+        if other.what == "the name" and other.record == item.record and other is not item and end <= len(reader.file):
+            text += f", {quoted(reader.file[other.place : end])}"
+    return text
+
+
+def holding(reader, item):
+    """What the bytes of an item say; nothing where they are not all there."""
+    data = reader.file[item.place : item.place + item.width]
+    if len(data) < item.width:
+        have = "the file has none of them" if not data else f"the file has only {len(data)} of them"
+        return ", but the file ends before it." if item.width == 1 else f", but {have}."
+    number = int.from_bytes(data, "little")
+    bits = series([str(bit) for bit in range(8 * item.width) if number >> bit & 1])
+    if item.bound is not None:
+        limit = f"only numbers below {item.bound} may be in it" if item.bound else "nothing may be in it"
+        members = f"the set of {bits}" if bits else "the empty set"
+        return f": {members}; {limit}." if number >> item.bound else f": {members}."
+    if item.what == "the bit map":
+        return f": {number}, with the bits {bits}." if bits else ": 0."
+    return f": {quoted(data)}." if item.what == "the name" else f": {number}."
+
+
+def standing(reader, place):
+    """What stands at a place of a file."""
+    item = next((item for item in reader.items if item.place <= place < item.place + item.width), None)
+    if item:
+        content = f"{item.what}{owner(reader, item)}{holding(reader, item)}"
+        if item.width == 1:
+            return f"Byte {place} holds {content}"
+        return f"Byte {place} is number {place - item.place + 1} of the {item.width} bytes that hold {content}"
+    size = counted(len(reader.file), "byte", "bytes")
+    if place >= len(reader.file):
+        return f"The file has {size}, so it has no byte {place}."
+    if reader.refusal and reader.refusal.number != 8:
+        return f"The file is not read as far as byte {place}: it is refused before that."
+    return f"The last record ends in front of byte {reader.at}; the file has {size}."
+
+
+def verdict(reader):
+    if reader.refusal:
+        return f"refused {reader.refusal.number} at {reader.refusal.place}"
+    return f"a {reader.kind.word} file that is in order"
+
+
+def place_in_file(number, place, reader):
+    """What stands at the place of a refusal, and how the file reads by itself where that is something else."""
+    same = reader.refusal and reader.refusal.number == number
+    place = reader.refusal.place if same and place is None else place
+    lines = []
+    if number <= 8 and place is not None:
+        lines.append(standing(reader, place))
+    if number == 11 and place is not None and reader.job and reader.kind is CHOICE:
+        known = place < len(reader.job.records)
+        lines.append(f"Here that is {called(reader.job, place)}." if known else f"The file has no article {place}.")
+    if not same and (number <= 8 or reader.refusal) or same and reader.refusal.place != place:
+        lines.append(f"Read by itself, the file is {verdict(reader)}.")
+    return "\n".join(lines)
+
+
+def explained(number, place=None, reader=None):
+    """A refusal in words, and what stands at its place where a file was read."""
+    wrong, meaning, remark = REASONS[number]
+    lines = [f"Reason {number}: {wrong}."]
+    if meaning is None:
+        lines.append("The place is always 0 and says nothing.")
+    else:
+        lines.append(f"The place is {meaning}" + ("." if place is None else f"; here it is {place}."))
+    lines.append(remark)
+    lines.append(place_in_file(number, place, reader) if reader else "")
+    return "\n".join(line for line in lines if line) + "\n"

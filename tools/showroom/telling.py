@@ -1,0 +1,100 @@
+"""Answers in words, by the names that the text has, and as data for programs."""
+
+from kitchen import CHOICE, NoPlan, NoSelection
+from showroom.reasons import NO_KITCHEN, NO_PLAN
+from showroom.words import called, counted, names, names_of, printed
+
+WIDEST = 40  # columns of a name in a list
+
+
+def member_names(text, members):
+    """Wishes or facts by the names that the text gives them."""
+    return [printed(text.names[member]) for member in sorted(members)]
+
+
+def listed(rows):
+    """Pairs of texts, the second ones below each other."""
+    width = min(WIDEST, max((len(first) for first, _ in rows), default=0))
+    return [f"  {first.ljust(width)}  {second}".rstrip() for first, second in rows]
+
+
+def fulfilled(text, number):
+    """The ordered wishes that an article fulfils."""
+    return text.job.records[number].sets[0] & text.job.sets[0]
+
+
+def article_rows(text, articles):
+    rows = []
+    for number in sorted(articles):
+        wishes = "; ".join(member_names(text, fulfilled(text, number)))
+        rows.append((called(text.job, number), wishes or "(no wish of the order)"))
+    return listed(rows)
+
+
+def kitchen_told(text, answer):
+    articles, wishes = len(answer.articles), counted(len(text.job.sets[0]), "wish", "wishes")
+    if not articles:
+        return ["The order has no wish, so the kitchen needs no article."]
+    exclude = "; no two of them exclude each other" if articles > 1 else ""
+    lines = [f"A kitchen of {counted(articles, 'article', 'articles')} covers the order of {wishes}{exclude}:"]
+    return lines + article_rows(text, answer.articles)
+
+
+def aside_told(text, aside):
+    if not aside:
+        return []
+    none = f"No kitchen for this order has {'any of them' if len(aside) > 1 else 'it'}"
+    return [f"Set aside at once: {names_of(text.job, aside)}. {none}; `tools/job advise` tells all that are in none."]
+
+
+def rounds_told(text, rounds):
+    if not rounds:
+        return ["The goal holds at the start, so the fitting takes no round."]
+    lines = [f"A plan of {counted(len(rounds), 'round', 'rounds')}; no plan has fewer:"]
+    return lines + listed([(f"round {number}", "; ".join(names(text.job, steps))) for number, steps in enumerate(rounds, 1)])
+
+
+def told(text, answer):
+    """An answer in lines."""
+    if answer is NoSelection:
+        return [NO_KITCHEN]
+    if answer is NoPlan:
+        return [NO_PLAN.format(counted(text.job.horizon, "round", "rounds"))]
+    return kitchen_told(text, answer) if text.job.kind is CHOICE else rounds_told(text, answer.rounds)
+
+
+def further_told(text, kitchens):
+    """Further kitchens, by rising number."""
+    lines = []
+    for number, other in enumerate(kitchens, 1):
+        lines += [f"Further kitchen {number}, of {counted(len(other.articles), 'article', 'articles')}:"]
+        lines += article_rows(text, other.articles)
+    return lines if kitchens else ["There is no further kitchen."]
+
+
+# ---- for programs
+
+
+def record_data(job, number):
+    name = job.records[number].name
+    return {"number": number, "name": printed(name) if name else None}
+
+
+def article_data(text, articles):
+    return [record_data(text.job, u) | {"wishes": member_names(text, fulfilled(text, u))} for u in sorted(articles)]
+
+
+def data(text, answer, following=None):
+    """An answer as JSON has it."""
+    if answer is NoSelection:
+        return {"kind": "choice", "answer": "no such kitchen"}
+    if answer is NoPlan:
+        return {"kind": "fitting", "answer": "no such plan", "horizon": text.job.horizon}
+    if text.job.kind is not CHOICE:
+        rounds = [[record_data(text.job, step) for step in sorted(steps)] for steps in answer.rounds]
+        return {"kind": "fitting", "answer": "plan", "rounds": rounds}
+    found = {"kind": "choice", "answer": "kitchen", "articles": article_data(text, answer.articles)}
+    found["set aside"] = [record_data(text.job, number) for number in sorted(answer.aside)]
+    if following is not None:
+        found["further"] = [article_data(text, other.articles) for other in following]
+    return found

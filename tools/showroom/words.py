@@ -1,0 +1,53 @@
+"""How names and numbers stand in a sentence."""
+
+
+def counted(count, one, several):
+    return f"{count} {one if count == 1 else several}"
+
+
+def series(parts, word="and"):
+    """Parts as they stand in a sentence; with semicolons where a part has a comma or that word itself."""
+    if len(parts) < 2 or any("," in part or f" {word} " in part for part in parts):
+        return "; ".join(parts)
+    return ", ".join(parts[:-1]) + f" {word} " + parts[-1]
+
+
+def decoded(name):
+    """The text of a name's bytes. Bytes that are not UTF-8 become characters that do not print."""
+    return name.decode("utf-8", "surrogateescape")
+
+
+def quoted(name):
+    """A name in quotation marks, as it may stand in a text."""
+
+    def shown(character):
+        if character in '"\\':
+            return "\\" + character
+        if character.isprintable():
+            return character
+        return "".join(f"\\x{byte:02X}" for byte in character.encode("utf-8", "surrogateescape"))
+
+    return '"' + "".join(map(shown, decoded(name))) + '"'
+
+
+def printed(name):
+    """A name as people read it: quoted only where something in it does not print."""
+    return decoded(name) if decoded(name).isprintable() else quoted(name)
+
+
+def called(job, number):
+    """An article or step in a sentence: its name, and its number where there is no name or another has the same."""
+    name, plain = job.records[number].name, f"{job.kind.record} {number}"
+    if not name:
+        return plain
+    alone = sum(record.name == name for record in job.records) == 1
+    return printed(name) if alone else f"{printed(name)} ({plain})"
+
+
+def names(job, numbers):
+    """Articles or steps, in the order of their numbers."""
+    return [called(job, number) for number in sorted(numbers)]
+
+
+def names_of(job, numbers):
+    return series(names(job, numbers))
