@@ -121,7 +121,7 @@ def ask_one(path, text, options):
         return status_of(answer), json_line(path, telling.data(text, answer, following))
     lines = telling.told(text, answer)
     if answer is NoSelection or answer is NoPlan:
-        lines.append(f"`tools/job advise {path}` says why.")
+        lines.append("`tools/job advise` says more.")
     elif text.job.kind is CHOICE:
         lines += telling.aside_told(text, answer.aside)
     return status_of(answer), lines_of(lines + ([] if following is None else telling.further_told(text, following)))

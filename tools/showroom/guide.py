@@ -66,6 +66,10 @@ How a text is written:
   byte E4. A letter with a mark may be typed as one character or as two: a list finds the name either way.
 - A comment is a line of its own that begins with `#` and no digit behind it.
 
+With --json each text has one line:
+  text, kind, and answer: "kitchen", "no such kitchen", "plan", "no such plan" or "error"; a kitchen has articles, each
+  with number, name and wishes, and set_aside (and further, with --next); a plan has rounds; an error has a message.
+
 Limits:
   a choice   64 articles, 64 wishes
   a fitting  32 steps, 32 facts, a horizon of 16 rounds

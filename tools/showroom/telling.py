@@ -94,7 +94,7 @@ def data(text, answer, following=None):
         rounds = [[record_data(text.job, step) for step in sorted(steps)] for steps in answer.rounds]
         return {"kind": "fitting", "answer": "plan", "rounds": rounds}
     found = {"kind": "choice", "answer": "kitchen", "articles": article_data(text, answer.articles)}
-    found["set aside"] = [record_data(text.job, number) for number in sorted(answer.aside)]
+    found["set_aside"] = [record_data(text.job, number) for number in sorted(answer.aside)]
     if following is not None:
         found["further"] = [article_data(text, other.articles) for other in following]
     return found

@@ -363,8 +363,8 @@ def stated(text, order=None):
 
 def is_fitting(text):
     """Whether a text says of itself that it is a fitting, faulty or not."""
-    lines = [line for line in map(uncommented, text.decode("utf-8", "replace").removeprefix("\ufeff").splitlines()) if line]
-    return lines[:1] == [FITTING.word]
+    lines = (uncommented(line.decode("utf-8", "replace")) for line in byte_lines(text))
+    return next(filter(None, lines), "") == FITTING.word
 
 
 def remarks(path, text, found, word=""):
