@@ -1,24 +1,23 @@
--- What advice on a job rests on: each conclusion that is drawn from the choice for a changed job, first over networks and then over jobs.
--- Assumes nothing.
+-- What advice on a job rests on. It asks the choice about changed jobs (the wishes of some articles emptied, another order) and concludes
+-- something about the job itself: each such conclusion is a theorem here, first over networks, then over jobs as files state them. Assumes nothing.
 use mathlib.Core.Path.{_≡_, refl, sym, ap, ap₂, subst, _∙_}
 use mathlib.Core.Logic.{_⊎_, inl, inr, _↔_, _≢_, Iff·symm, Iff·trans}
-use mathlib.Core.Bool.{Bool, true, false, not, _||_, cond, true≢false}
+use mathlib.Core.Bool.{Bool, true, false, not, cond}
 use mathlib.Core.List.{List, [], _∷_}
 use mathlib.Core.Option.{Option, none, some, Option·none-ne-some}
-use Prim.Native.Nat.{ℕ, zero, suc, _+_, _^_, _<_}
+use Prim.Native.Nat.{ℕ, zero, suc, _+_, _-_, _^_, _<_, max}
 use native.Mathlib.Nat.{le-trans, lt-of-le-of-lt}
 use native.Mathlib.Omega.{arith}
-use borrow.Author.Tests.{not-true, eq-eqb, ne-eqb}
 use lib.Bits.{bitOr}
 use lib.Dec.{eqb}
 use lib.ListN.{getD}
 use Rattle.sets.specs.Ranges.{num, given}
 use Rattle.sets.specs.Sets.{bit, _∈_, _⊆_, member, without, full}
 use Rattle.sets.specs.First.{Smallest}
-use Rattle.sets.proofs.Ranges.{neither, both-false, false-num, num-false, given-zero, given-yes}
-use Rattle.sets.proofs.Bits.{bit-cases, not-in, bit-one, only-one, in-part, part-in, part-full, member-no, not-member, member-below, member-differs, full-below, bit-full, bit-without, without-le, without-in, in-without, more-same}
-use Rattle.sets.proofs.Made.{set-bit, given-in}
-use Rattle.jobfile.specs.Job.{Entry, Job, column, size, order}
+use Rattle.sets.proofs.Ranges.{num-either, false-num, num-false, same-yes, same-no, given-zero, given-yes, given-no}
+use Rattle.sets.proofs.Bits.{bit-le, bit-cases, bit-empty, not-in, bit-one, only-one, in-part, part-in, part-full, member-yes, member-no, member-below, member-differs, full-below, bit-full, bit-without, without-le, without-in, in-without, more-same}
+use Rattle.sets.proofs.Made.{set-bit}
+use Rattle.jobfile.specs.Job.{Entry, Job, column, size, order, wishes}
 use Rattle.network.specs.Network.{Network, networkOf, clash, Selection}
 use Rattle.network.proofs.NetworkLaws.{clash-turned}
 use Rattle.choice.specs.Choice.{Cover, selection}
@@ -35,6 +34,10 @@ none-by (some y) h = (λ e. absurd (Option·none-ne-some y (sym e)), λ fails. l
 
 -- ---- networks
 
+-- all articles but those of out
+abbrev allBut : Network → ℕ → ℕ
+allBut N out = without (full (N .articles)) out
+
 module _ (N : Network) where
   -- a selection for an order is one for each part of it
   pub part-selection : {p q : ℕ} → p ⊆ q → (x : ℕ) → Selection N q x → Selection N p x
@@ -44,40 +47,47 @@ module _ (N : Network) where
   pub none-for-part : {p q : ℕ} → p ⊆ q → ((x : ℕ) → Selection N p x → ⊥) → (x : ℕ) → Selection N q x → ⊥
   none-for-part h fails x s = fails x (part-selection h x s)
 
-  -- a selection without some articles is a cover by the others
-  apart-cover : (need out x : ℕ) → Selection N need x → Apart x out → Cover N (without (full (N .articles)) out) need x
+  -- a selection without some articles is a cover by all others
+  apart-cover : (need out x : ℕ) → Selection N need x → Apart x out → Cover N (allBut N out) need x
   apart-cover need out x s a = record {
-    within =
-        in-part x (without (full (N .articles)) out)
-        (λ i m. without-in (full (N .articles)) out i (part-in x (full (N .articles)) (part-full (N .articles) x (s .within)) i m) (not-in out i (a i m)));
+    within = in-part x (allBut N out) (λ i m. without-in (full (N .articles)) out i (part-in x (full (N .articles)) (part-full (N .articles) x (s .within)) i m) (not-in out i (a i m)));
     free = s .free;
     covers = s .covers;
   }
 
-  cover-apart : (need out x : ℕ) → Cover N (without (full (N .articles)) out) need x → Selection N need x × Apart x out
+  cover-apart : (need out x : ℕ) → Cover N (allBut N out) need x → Selection N need x × Apart x out
   cover-apart need out x c = (
     cover-selection N need x (widened N (λ i. omega (arith, bit-without (full (N .articles)) out i)) c),
-    λ u m o. omega (arith, in-without (full (N .articles)) out u (part-in x (without (full (N .articles)) out) (c .within) u m) .1),
+    λ u m o. omega (arith, in-without (full (N .articles)) out u (part-in x (allBut N out) (c .within) u m) .1),
   )
 
   -- the articles that v does not bar are those that may be taken beside it
-  barred-beside : (v : ℕ) → Beside N (full (N .articles)) v (without (full (N .articles)) (barred N v))
+  barred-beside : (v : ℕ) → Beside N (full (N .articles)) v (allBut N (barred N v))
   unfolding barred
   barred-beside v = record { down = down; up = up }
     where
-      bits : (i : ℕ) → i ∈ full (N .articles) → bit (barred N v) i ≡ num (eqb i v || clash N i v)
-      bits i m = set-bit (N .articles) (λ u. eqb u v || clash N u v) i (member-below (full (N .articles)) (N .articles) i (full-below (N .articles)) m)
+      bits : (i : ℕ) → i ∈ full (N .articles) → bit (barred N v) i ≡ max (num (eqb i v)) (num (clash N i v))
+      bits i m =
+          set-bit (N .articles) _ i (member-below (full (N .articles)) (N .articles) i (full-below (N .articles)) m)
+          ∙ omega (arith, num-either (eqb i v) (clash N i v))
 
-      down : (i : ℕ) → i ∈ without (full (N .articles)) (barred N v) → (i ∈ full (N .articles)) × (i ≢ v) × (clash N v i ≡ false)
+      down : (i : ℕ) → i ∈ allBut N (barred N v) → (i ∈ full (N .articles)) × (i ≢ v) × (clash N v i ≡ false)
       down i m =
           let (mi, z) = in-without (full (N .articles)) (barred N v) i m in
-          let (e, f) = neither (eqb i v) (clash N i v) (false-num (eqb i v || clash N i v) (sym (bits i mi) ∙ z)) in
-          (mi, λ p. true≢false (sym (eq-eqb i v p) ∙ e), clash-turned N v i ∙ f)
+          (mi, λ e. omega (arith, bits i mi, same-yes i v e), clash-turned N v i ∙ false-num (clash N i v) (omega (arith, bits i mi)))
 
-      up : (i : ℕ) → i ∈ full (N .articles) → i ≢ v → clash N v i ≡ false → i ∈ without (full (N .articles)) (barred N v)
+      up : (i : ℕ) → i ∈ full (N .articles) → i ≢ v → clash N v i ≡ false → i ∈ allBut N (barred N v)
       up i m d f =
-          without-in (full (N .articles)) (barred N v) i m
-          (bits i m ∙ num-false (eqb i v || clash N i v) (both-false (eqb i v) (clash N i v) (ne-eqb i v d) (clash-turned N i v ∙ f)))
+          let none = num-false (clash N i v) (clash-turned N i v ∙ f) in
+          without-in (full (N .articles)) (barred N v) i m (omega (arith, bits i m, same-no i v d))
+
+  -- an article carries what it carried, unless its wishes are emptied
+  emptied-bit : (out u w : ℕ) → bit (emptied N out .wishes u) w ≡ bit (N .wishes u) w - bit out u
+  emptied-bit out u w = go (bit-cases out u)
+    where
+      go : (bit out u ≡ 0) ⊎ (bit out u ≡ 1) → bit (emptied N out .wishes u) w ≡ bit (N .wishes u) w - bit out u
+      go (inl z) = omega (arith, ap (λ (e : ℕ). bit e w) (given-yes (not (member out u)) (N .wishes u) (ap not (member-no out u z))))
+      go (inr m) = omega (arith, bit-le (N .wishes u) w, bit-empty w, ap (λ (e : ℕ). bit e w) (given-no (not (member out u)) (N .wishes u) (ap not (member-yes out u m))))
 
 module _ (N : Network) (order : ℕ) where
   -- with the wishes of some articles emptied there is a selection, exactly if there is one without these articles
@@ -89,24 +99,20 @@ module _ (N : Network) (order : ℕ) where
       less x s = record {
         within = lt-of-le-of-lt (without-le x out) (s .within);
         free = λ u v l mu mv. s .free u v l (in-without x out u mu .0) (in-without x out v mv .0);
-        covers =
-            by-covered N (without x out) order
-            (λ w m.
-            let (u, l, mu, mw) = covered-by (emptied N out) x order (s .covers) w m in
-            let (t, k) = given-in (not (member out u)) (N .wishes u) w mw in
-            (u, l, without-in x out u mu (not-member out u (not-true (member out u) t)), k));
+        covers = by-covered N (without x out) order carried;
       }
+        where
+          carried : (w : ℕ) → w ∈ order → (u : ℕ) × (u < N .articles) × (u ∈ without x out) × (w ∈ N .wishes u)
+          carried w m =
+              let (u, l, mu, mw) = covered-by (emptied N out) x order (s .covers) w m in
+              (u, l, without-in x out u mu (omega (arith, emptied-bit N out u w, bit-le (N .wishes u) w)), omega (arith, emptied-bit N out u w, bit-le (N .wishes u) w))
 
       same : (x : ℕ) → Selection N order x → Apart x out → Selection (emptied N out) order x
-      same x s a = record {
-        within = s .within;
-        free = s .free;
-        covers =
-            by-covered (emptied N out) x order
-            (λ w m.
-            let (u, l, mu, mw) = covered-by N x order (s .covers) w m in
-            (u, l, mu, ap (λ (e : ℕ). bit e w) (given-yes (not (member out u)) (N .wishes u) (ap not (member-no out u (not-in out u (a u mu))))) ∙ mw));
-      }
+      same x s a = record { within = s .within; free = s .free; covers = by-covered (emptied N out) x order carried }
+        where
+          carried : (w : ℕ) → w ∈ order → (u : ℕ) × (u < N .articles) × (u ∈ x) × (w ∈ emptied N out .wishes u)
+          carried w m =
+              let (u, l, mu, mw) = covered-by N x order (s .covers) w m in (u, l, mu, omega (arith, emptied-bit N out u w, not-in out u (a u mu)))
 
   -- an article is in every selection, exactly if with its wishes emptied there is none
   pub in-every : (v : ℕ) → ((x : ℕ) → Selection N order x → v ∈ x) ↔ ((x : ℕ) → Selection (emptied N (2 ^ v)) order x → ⊥)
@@ -119,17 +125,17 @@ module _ (N : Network) (order : ℕ) where
   -- an article is in some selection, exactly if what it leaves of the order has a selection without the article and those that it clashes with
   pub in-some : (v : ℕ) → v < N .articles
       → ((x : ℕ) × Selection N order x × (v ∈ x)) ↔ ((x : ℕ) × Selection N (without order (N .wishes v)) x × Apart x (barred N v))
-  in-some v h = (λ (x, s, m). let (t, a) = left x s m in (without x (2 ^ v), t, a), λ (x, s, a). (bitOr x (2 ^ v), more x s a, more-same x v))
+  in-some v h = (λ (x, s, m). let (t, a) = less x s m in (without x (2 ^ v), t, a), λ (x, s, a). (bitOr x (2 ^ v), more x s a, more-same x v))
     where
-      left : (x : ℕ) → Selection N order x → v ∈ x → Selection N (without order (N .wishes v)) (without x (2 ^ v)) × Apart (without x (2 ^ v)) (barred N v)
-      left x s m =
+      less : (x : ℕ) → Selection N order x → v ∈ x → Selection N (without order (N .wishes v)) (without x (2 ^ v)) × Apart (without x (2 ^ v)) (barred N v)
+      less x s m =
           cover-apart N (without order (N .wishes v)) (barred N v) (without x (2 ^ v))
-          (given-up N (full (N .articles)) order v x (without (full (N .articles)) (barred N v)) (barred-beside N v) m (selection-cover N order x s))
+          (given-up N (full (N .articles)) order v x (allBut N (barred N v)) (barred-beside N v) m (selection-cover N order x s))
 
       more : (x : ℕ) → Selection N (without order (N .wishes v)) x → Apart x (barred N v) → Selection N order (bitOr x (2 ^ v))
       more x s a =
           cover-selection N order (bitOr x (2 ^ v))
-          (taken N (full (N .articles)) order v x (without (full (N .articles)) (barred N v)) h (bit-full (N .articles) v h) (barred-beside N v)
+          (taken N (full (N .articles)) order v x (allBut N (barred N v)) h (bit-full (N .articles) v h) (barred-beside N v)
           (apart-cover N (without order (N .wishes v)) (barred N v) x s a))
 
   -- the choice answers none exactly if there is no selection, and a set exactly if there is one
@@ -173,21 +179,21 @@ clashes-kept out i (e ∷ es) = ap₂ _∷_ (second-kept (member out i) e) (clas
 -- ---- jobs: what the choice for a changed job tells of the job itself
 
 module _ {N : Type 0} (job : Job N) where
+  wishes-changed : (out u : ℕ) → getD (wishes (emptiedJob job out)) u 0 ≡ given (not (member out u)) (getD (wishes job) u 0)
+  wishes-changed out u = wishes-emptied out _ u u (job .entries) (omega arith)
+
   -- the network of the job with the wishes of some articles emptied
   pub emptied-network : (out : ℕ) → networkOf (emptiedJob job out) ≡ emptied (networkOf job) out
-  emptied-network out = λ i. record {
-    articles = size job;
-    wishes = λ u. wishes-emptied out 0 u u (job .entries) (omega arith) i;
-    clashes = λ u. getD (clashes-kept out 0 (job .entries) i) u 0;
-  }
+  emptied-network out = λ i. record { articles = size job; wishes = λ u. wishes-changed out u i; clashes = λ u. getD (clashes-kept out 0 (job .entries) i) u 0 }
 
-  -- the job with the wishes of some articles emptied has a selection, exactly if the job has one without these articles
+  -- it has a selection, exactly if the job has one without these articles
   pub some-without : (out : ℕ) → ((y : ℕ) × (smallestOf (emptiedJob job out) ≡ some y)) ↔ ((x : ℕ) × Selection (networkOf job) (order job) x × Apart x out)
   some-without out =
       Iff·trans (some-answered (networkOf (emptiedJob job out)) (order job))
       (subst (λ (M : Network). ((x : ℕ) × Selection M (order job) x) ↔ ((x : ℕ) × Selection (networkOf job) (order job) x × Apart x out)) (sym (emptied-network out))
       (emptied-exactly (networkOf job) (order job) out))
 
+  -- it has none, exactly if the job has none without these articles
   pub none-without : (out : ℕ) → (smallestOf (emptiedJob job out) ≡ none) ↔ ((x : ℕ) → Selection (networkOf job) (order job) x → Apart x out → ⊥)
   none-without out = none-by (smallestOf (emptiedJob job out)) (some-without out)
 
