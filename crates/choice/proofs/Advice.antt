@@ -138,7 +138,7 @@ module _ (N : Network) (order : ℕ) where
           (taken N (full (N .articles)) order v x (allBut N (barred N v)) h (bit-full (N .articles) v h) (barred-beside N v)
           (apart-cover N (without order (N .wishes v)) (barred N v) x s a))
 
-  -- the choice answers none exactly if there is no selection, and a set exactly if there is one
+  -- the choice answers none exactly if there is no selection, and a set exactly if there is one: for the order of a job, and for another (`ordered`)
   pub none-answered : (selection N order 0 ≡ none) ↔ ((x : ℕ) → Selection N order x → ⊥)
   none-answered = (λ e x s. none-exactly N order 0 e x s (omega arith), λ fails. exactly-none N order 0 (λ x s _. fails x s))
 
@@ -186,7 +186,7 @@ module _ {N : Type 0} (job : Job N) where
   pub emptied-network : (out : ℕ) → networkOf (emptiedJob job out) ≡ emptied (networkOf job) out
   emptied-network out = λ i. record { articles = size job; wishes = λ u. wishes-changed out u i; clashes = λ u. getD (clashes-kept out 0 (job .entries) i) u 0 }
 
-  -- it has a selection, exactly if the job has one without these articles
+  -- the job with the wishes of some articles emptied has a selection, exactly if the job has one without these articles
   pub some-without : (out : ℕ) → ((y : ℕ) × (smallestOf (emptiedJob job out) ≡ some y)) ↔ ((x : ℕ) × Selection (networkOf job) (order job) x × Apart x out)
   some-without out =
       Iff·trans (some-answered (networkOf (emptiedJob job out)) (order job))

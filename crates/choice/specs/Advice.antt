@@ -1,4 +1,4 @@
--- What advice on a job is said with: the changed jobs that the choice is asked about, and what that tells of the job itself.
+-- What advice on a job is said with: the changed jobs that the choice is asked about. No definition knows a width.
 use mathlib.Core.Bool.{not, _||_, cond}
 use mathlib.Core.List.{List, [], _∷_}
 use mathlib.Core.Option.{Option}
@@ -21,7 +21,7 @@ Apart x out = (u : ℕ) → u ∈ x → u ∈ out → ⊥
 abbrev pub emptied : Network → ℕ → Network
 emptied N out = record { articles = N .articles; wishes = λ u. given (not (member out u)) (N .wishes u); clashes = N .clashes }
 
--- what cannot be added to v: v itself, and every article that it clashes with
+-- what v bars: itself, and every article that it clashes with
 unfoldable pub barred : Network → ℕ → ℕ
 barred N v = setOf (N .articles) (λ u. eqb u v || clash N u v)
 
