@@ -260,7 +260,8 @@ class Draft:
         if text.startswith("#"):
             if NUMBER.fullmatch(text[1:]) and int(text[1:]) < len(names):
                 return int(text[1:])
-            return self.fault(line, f"there is no {what} {brief(text)}; expected {span}", re.sub("^#[0-9]*", "", text))
+            behind = "" if re.fullmatch("#[0-9]+", text) else text
+            return self.fault(line, f"there is no {what} {brief(text)}; expected {span}", behind)
         name = self.name(line, text)
         if name is None:
             return None
