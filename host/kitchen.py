@@ -75,7 +75,7 @@ class Unusable(Exception):
 
 
 def named(name):
-    return name.encode() if isinstance(name, str) else bytes(name)
+    return name.encode() if isinstance(name, str) else bytes(memoryview(name))
 
 
 def article(wishes=(), clashes=(), name=b""):
@@ -88,9 +88,10 @@ def step(needs=(), gives=(), takes=(), name=b""):
 
 def choice(wishes, order, articles):
     """A job with so many wishes. A clash may be said at either of two articles; a file says it at the later."""
+    articles = list(articles)
     clashes = [set() for _ in articles]
     for number, record in enumerate(articles):
-        for other in record.sets[1]:
+        for other in sets_of(CHOICE, number, record)[1]:
             low, high = sorted((number, other))
             if low < 0 or high >= len(articles) or low == high:
                 raise Unusable(f"article {number} cannot clash with {other}")
@@ -102,6 +103,13 @@ def choice(wishes, order, articles):
 def fitting(facts, horizon, start, goal, steps):
     """A job with so many facts."""
     return usable(Job(FITTING, facts, horizon, [set(start), set(goal)], list(steps)))
+
+
+def sets_of(kind, number, record):
+    """The sets of a record, if it is one of this kind."""
+    if len(record.sets) != len(kind.fields):
+        raise Unusable(f"{kind.record} {number} has {len(record.sets)} sets; {kind.records} have {len(kind.fields)}")
+    return record.sets
 
 
 def usable(job):
@@ -118,7 +126,7 @@ def usable(job):
     for number, record in enumerate(job.records):
         if len(record.name) > LONGEST_NAME:
             raise Unusable(f"the name of {kind.record} {number} has {len(record.name)} bytes; at most {LONGEST_NAME} do")
-        for word, members in zip(kind.fields, record.sets):
+        for word, members in zip(kind.fields, sets_of(kind, number, record)):
             bound = number if word == "clashes" else job.members
             heads.append((f"the {word} of {kind.record} {number}", members, bound))
     for what, members, bound in heads:
@@ -278,7 +286,7 @@ class Library:
     """The shared library, with a method for each call. A path may be given; otherwise it is looked for."""
 
     def __init__(self, path=None):
-        path = library_path() if path is None else pathlib.Path(path).resolve()
+        path = library_path() if path is None else pathlib.Path(path).absolute()
         if path is None:
             raise Unusable("libkitchen.so is missing; build it with tools/library")
         try:

@@ -1,20 +1,35 @@
-"""Tests of tools/job. Called as `python3 -B tests/tool.py` in the repository's root; kitchen is not needed.
+"""Tests of tools/job and host/kitchen.py. Called as `python3 -B tests/tool.py` in the repository's root.
 
-The last line is `N checks`, and the status 0; or what failed is printed, and the status is 1.
-Files are written to a temporary folder only.
+Neither kitchen nor the library is needed: what asks them stands in tests/showroom.py. The last line is `N checks`, and the
+status 0; or what failed is printed, and the status is 1. Files are written to a temporary folder only.
 """
 
-import importlib.machinery
-import importlib.util
+import os
 import pathlib
+import pty
 import random
 import re
+import select
+import signal
 import subprocess
 import sys
 import tempfile
+import time
+import traceback
+import unicodedata
 
 sys.dont_write_bytecode = True
 ROOT = pathlib.Path(__file__).resolve().parent.parent
+sys.path[:0] = [str(ROOT / "tools"), str(ROOT / "host")]
+sys.path.append(str(ROOT / "reference"))
+
+import _ctypes  # noqa: E402
+import drawn  # noqa: E402
+import kitchen  # noqa: E402
+import reader as reference  # noqa: E402
+import rules as second  # noqa: E402
+from showroom import asking, commands, files, guide, reasons, rules, texts, words  # noqa: E402
+
 TOOL = ROOT / "tools" / "job"
 RULES = (ROOT / "docs" / "RULES.md").read_text()
 SAMPLES = sorted((ROOT / "jobs").glob("*.txt"))
@@ -42,52 +57,89 @@ def equal(found, expected, label):
     check(found == expected, f"{label}\n  expected {expected!r}\n  found    {found!r}")
 
 
-def loaded(name, path):
-    """A module from a file of any name."""
-    loader = importlib.machinery.SourceFileLoader(name, str(path))
-    module = importlib.util.module_from_spec(importlib.util.spec_from_loader(name, loader))
-    loader.exec_module(module)
-    return module
+def raised(kind, phrase, action, *arguments):
+    """The action raises this kind, with this part of a message."""
+    label = f"{getattr(action, '__name__', action)}{arguments!r}"[:300]
+    try:
+        found = action(*arguments)
+        check(False, f"{label} gives {found!r}; expected {kind.__name__}: {phrase}")
+    except kind as trouble:
+        check(phrase in str(trouble), f"{label} raises {trouble}; expected {phrase}")
 
 
-job = loaded("job", TOOL)
-reference = loaded("reader", ROOT / "reference" / "reader.py")
+def call(*arguments, **options):
+    """A call of the tool as a process that has begun."""
+    return subprocess.Popen([sys.executable, "-B", TOOL, *arguments], **options)
 
 
-def run(*arguments, stdin=b""):
+def run(*arguments, stdin=b"", **options):
     """The status of a call of the tool, its output and its errors."""
-    result = subprocess.run([sys.executable, "-B", str(TOOL), *map(str, arguments)], input=stdin, capture_output=True)
-    return result.returncode, result.stdout, result.stderr.decode()
+    command = [sys.executable, "-B", TOOL, *arguments]
+    done = subprocess.run(command, input=stdin, capture_output=True, timeout=100, **options)
+    return done.returncode, done.stdout, done.stderr.decode()
+
+
+def copied(arguments, streams):
+    """What the tool does in a copy of this process, with these files as its streams."""
+    for number, file in enumerate(streams):
+        os.dup2(file.fileno(), number)
+    try:
+        status = commands.main(list(map(str, arguments)))
+    except SystemExit as end:
+        status = end.code or 0
+    except BaseException:
+        traceback.print_exc()
+        status = 70
+    os._exit(status)
+
+
+def quick(*arguments, stdin=b""):
+    """As run, without a new process's start."""
+    with tempfile.TemporaryFile() as given, tempfile.TemporaryFile() as output, tempfile.TemporaryFile() as errors:
+        given.write(stdin)
+        given.seek(0)
+        child = os.fork()
+        if child == 0:
+            copied(arguments, (given, output, errors))
+        status = os.waitstatus_to_exitcode(os.waitpid(child, 0)[1])
+        output.seek(0)
+        errors.seek(0)
+        return status, output.read(), errors.read().decode()
+
+
+def written(text, order=None):
+    """The job file of a text."""
+    return kitchen.written(texts.stated(text.encode(), order).job)
 
 
 def text_of(file):
-    return job.job_text(job.Reader(file).job).encode()
+    return files.job_text(kitchen.read(file)).encode()
 
 
 # ---- samples
 
 
 def samples(folder):
-    """Every sample is written, and read back to the same file."""
+    """Every sample is written without a warning, and read back to the same file."""
     check({path.stem for path in SAMPLES} >= {"A", "F", "fitting", "impossible", "kitchen"}, "a sample is missing")
     for path in SAMPLES:
         target = folder / f"{path.stem}.job"
         equal(run("write", path, "-o", target), (0, b"", ""), f"write {path.name}")
         file = target.read_bytes()
-        equal(run("write", path), (0, file, ""), f"{path.name} to standard output")
+        equal(written(path.read_text()), file, f"{path.name} by the function")
         status, text, _ = run("read", target)
-        equal((status, job.written(text)), (0, file), f"{path.name}, read back")
-        equal(text_of(job.written(text)), text, f"{path.name}, read back twice")
+        equal((status, written(text.decode())), (0, file), f"{path.name}, read back")
+        equal(text_of(written(text.decode())), text, f"{path.name}, read back twice")
         status, shown, _ = run("show", target)
-        state = job.Reader(file).job
-        named = all(job.printed(record.name) in shown.decode() for record in state.records)
+        state = kitchen.read(file)
+        named = all(words.printed(record.name) in shown.decode() for record in state.records)
         check(status == 0 and named, f"show {path.name}")
         check(len(shown.decode().splitlines()) > len(state.records), f"show {path.name}: a line for each record")
     equal((folder / "A.job").read_bytes(), A, "A has the bytes of the rules")
     equal((folder / "F.job").read_bytes(), F, "F has the bytes of the rules")
     equal(len(A), 46, "A has 46 bytes")
     for name, least, most in (("kitchen", 12, 20), ("fitting", 8, 14)):
-        count = len(job.Reader((folder / f"{name}.job").read_bytes()).job.records)
+        count = len(kitchen.read((folder / f"{name}.job").read_bytes()).records)
         check(least <= count <= most, f"{name} has {count} records")
 
 
@@ -99,7 +151,7 @@ SAME = {
     "by numbers": "choice\nwishes: a, b\norder: #1\narticle X\nwishes: #0\narticle Y\nwishes: #1\nclashes: #0\n",
     "other names, other order": "choice\norder: q\nwishes: p, q\narticle X\nwishes: p\narticle Y\nclashes: X\nwishes: q",
     "quoted": 'choice\nwishes: "a,\\"", "b"\norder: b\narticle "X"\nwishes: "a,\\x22"\narticle "\\x59"\nwishes: b\nclashes: "X"',
-    "comments": "# A\n\n choice # it is\nwishes: a, b #\norder: b\narticle X\n#x\nwishes: a\narticle Y # \"\n#\nwishes: b\nclashes: X",
+    "comments": "# A\n\n#\nchoice\n  # it is\nwishes: a, b\norder: b\narticle X\n#x\nwishes: a\narticle Y\n#\"\nwishes: b\nclashes: X",
     "over lines": "choice\nwishes: a,\n\n # more\n  b\norder: b\narticle X\nwishes: a\narticle Y\nwishes:b\nclashes  :  X",
     "line ends of Windows": KITCHEN.replace("\n", "\r\n"),
     "line ends of old": KITCHEN.replace("\n", "\r"),
@@ -112,7 +164,7 @@ CANONICAL = {
     "fitting\ngoal:\nstart: #0\nfacts: x\nhorizon: 16\nstep": (
         "fitting\nhorizon: 16\nfacts: fact 0\nstart: fact 0\ngoal:\n\nstep\n"
     ),
-    'choice\nwishes: x, y\norder: y, x\narticle A, B\narticle\n wishes: y,x\n clashes: "A, B"\narticle Nr #4\n clashes: #1': (
+    'choice\nwishes: x, y\norder: y, x\narticle A, B\narticle\n wishes: y,x\n clashes: "A, B"\narticle "Nr #4"\n clashes: #1': (
         "choice\nwishes: wish 0, wish 1\norder: wish 0, wish 1\n\n"
         'article "A, B"\n\narticle\n  wishes: wish 0, wish 1\n  clashes: "A, B"\n\narticle "Nr #4"\n  clashes: #1\n'
     ),
@@ -124,13 +176,12 @@ CANONICAL = {
 
 
 def texts_in_order():
-    file = job.written(KITCHEN.encode())
+    file = written(KITCHEN)
     equal(len(file), 11 + 9 + 2 + 17 + 2, "the length of a small job")
     for label, text in SAME.items():
-        equal(job.written(text.encode()), file, f"the same job, {label}")
+        equal(written(text), file, f"the same job, {label}")
     for text, form in CANONICAL.items():
-        equal(text_of(job.written(text.encode())).decode(), form, f"the form of {text!r}")
-    check(len(job.written(job.EXAMPLE.encode())) > 11, "the example of the help")
+        equal(text_of(written(text)).decode(), form, f"the form of {text!r}")
 
 
 # ---- texts with faults
@@ -174,6 +225,7 @@ FAULTY = [
     (FITTING.replace("3", "three"), [(2, "expected a number from 0 to 16")]),
     (FITTING.replace("3", ""), [(2, "expected a number from 0 to 16")]),
     (FITTING.replace("3", "-1"), [(2, "expected a number from 0 to 16")]),
+    (FITTING.replace("3", "٣"), [(2, "expected a number from 0 to 16")]),
     (FITTING.replace("3", "3, 4"), [(2, "expected a number from 0 to 16")]),
     (FITTING.replace("3", "9" * 5000), [(2, "expected a number from 0 to 16")]),
     (CHOICE + "article X\nwishes: c\n", [(5, 'no wish is named "c"; expected the name of one, or #0 to #1')]),
@@ -182,17 +234,16 @@ FAULTY = [
     ("choice\nwishes: oak\norder: OAK\n", [(3, 'or #0 (near: "oak")')]),
     ("choice\nwishes:\norder: a\n", [(3, "expected the name of one, or none, as there is no wish")]),
     (CHOICE + "article X\nwishes: #2\n", [(5, "there is no wish #2; expected #0 to #1")]),
-    (CHOICE + "article X\nwishes: #x\n", [(5, "there is no wish #x")]),
     (CHOICE + "article X\nwishes: #" + "1" * 5000, [(5, "there is no wish #111")]),
     (CHOICE + "article X\nwishes: a, b, a\n", [(5, '"a" stands twice in the list')]),
     (CHOICE + "article X\nwishes: a, #0\n", [(5, "#0 stands twice in the list")]),
     (CHOICE + "article X\nwishes: a,, b\n", [(5, "a name is missing in front of a comma")]),
     (CHOICE + "article X\nwishes: ,\n", [(5, "ends with a comma"), (5, "in front of a comma")]),
-    (CHOICE + "article X\nwishes: a,\narticle Y\n", [(5, "the list ends with a comma")]),
+    (CHOICE + "article X\nwishes: a,\narticle Y\n", [(5, "the list ends with a comma; expected a further name, in this line or the next")]),
     (CHOICE + "article X\nwishes: a,\n  b,\n", [(6, "the list ends with a comma")]),
     (CHOICE + "article X\nwishes: a,\n  c\n", [(6, 'no wish is named "c"')]),
     ("choice\nwishes: a, b, a\norder:\n", [(2, 'two wishes are named "a"')]),
-    ("choice\nwishes: a, #1\norder:\n", [(2, "#1 is no name")]),
+    ("choice\nwishes: a, #1\norder:\n", [(2, '#1 has a #; expected the name as "#1", with the marks')]),
     (CHOICE + "article X\nclashes: X\n", [(5, "clashes with itself")]),
     (CHOICE + "article X\nclashes: #0\n", [(5, "clashes with itself")]),
     (CHOICE + "article X\nclashes: Y\narticle Y\n", [(5, '"Y" stands below this article')]),
@@ -209,9 +260,12 @@ FAULTY = [
     (CHOICE + 'article "X" "Y"\n', [(4, "has a quotation mark")]),
     (CHOICE + 'article "X\\n"\n', [(4, "a backslash stands alone")]),
     (CHOICE + 'article "\\xG0"\n', [(4, "a backslash stands alone")]),
-    (CHOICE + "article #3\n", [(4, "#3 is no name")]),
+    (CHOICE + 'article "X\\"\n', [(4, "has a quotation mark")]),
+    (CHOICE + "article #3\n", [(4, "#3 has a #")]),
     (CHOICE + "article X\tY\n", [(4, 'expected the name without it, or as "X\\x09Y"')]),
     (CHOICE + "article X\u00a0Y\n", [(4, 'expected the name without it, or as "X\\xC2\\xA0Y"')]),
+    (CHOICE + "article X\u202eY\n", [(4, "does not print")]),
+    (CHOICE + "article X\0\n", [(4, 'expected the name without it, or as "X\\x00"')]),
     (CHOICE + "article\n" * 66, [(68, "too many articles; expected at most 64")]),
     (FITTING + "step\n" * 33, [(38, "too many steps; expected at most 32")]),
     ("choice\norder:\nwishes: " + ", ".join(map(str, range(65))), [(3, "too many wishes; expected at most 64")]),
@@ -221,14 +275,37 @@ FAULTY = [
         [(5, '"c"'), (6, "with itself"), (7, "expected"), (8, "40 bytes"), (9, '"d"')],
     ),
 ]
+# What stands behind something else is no comment. The line of the fault comes first.
+NO_COMMENT = [
+    (1, CHOICE.replace("choice", "choice # it is")),
+    (1, FITTING.replace("fitting", "fitting #")),
+    (2, CHOICE.replace(" a, b", "  # none").replace("order: a", "order:")),
+    (2, CHOICE.replace("a, b", "a, b # two")),
+    (2, FITTING.replace("3", "3 # rounds")),
+    (2, FITTING.replace("3", "3#")),
+    (3, CHOICE.replace("order: a", "order: #0 # x")),
+    (3, CHOICE.replace("order: a", "order: # nothing")),
+    (3, CHOICE.replace("order: a", "order: a # x")),
+    (4, CHOICE + "article Hinge # 12\n"),
+    (4, CHOICE + "article # a name is to follow\n"),
+    (4, CHOICE + "article Hinge #12\n"),
+    (4, CHOICE + "article C#\n"),
+    (4, CHOICE + 'article "Hinge" # left\n'),
+    (4, CHOICE + "article X # the last\nwishes: a\n"),
+    (5, CHOICE + "article X\nwishes: a, # one\n"),
+    (5, CHOICE + "article X\nwishes: #x\n"),
+    (5, CHOICE + 'article X\nwishes: "a" # one\n'),
+    (6, CHOICE + "article X\nwishes: a,\n  #1 # two\n"),
+    (7, FITTING + "step X\nneeds: #0# a\n"),
+]
 
 
 def faults_of(text):
     """The faults that are found in a text."""
     try:
-        job.written(text.encode())
+        texts.stated(text.encode())
         return []
-    except job.Faulty as faulty:
+    except texts.Faulty as faulty:
         return faulty.faults
 
 
@@ -239,22 +316,223 @@ def texts_with_faults(folder):
         for (_, message), (_, phrase) in zip(faults, expected):
             check(phrase in message, f"{label}: {phrase!r} is not in {message!r}")
             check("expected" in message, f"{label}: {message!r} does not say what was expected")
+            check("comment" not in message or "#" in text, f"{label}: {message!r} has nothing to do with comments")
+            check(len(message) < 400, f"{label}: the message has {len(message)} characters")
     path, target = folder / "faulty.txt", folder / "faulty.job"
     path.write_text(CHOICE + "article X\n  wishes: c\n  clashes: X\n")
-    status, output, errors = run("write", path, "-o", target)
+    status, output, errors = quick("write", path, "-o", target)
     equal((status, output, target.exists()), (1, b"", False), "a faulty text writes nothing")
     heads = [line for line in errors.splitlines() if not line.startswith(" ")]
     check(len(heads) == 2 and heads[0].startswith(f"{path}:5: no wish") and heads[1].startswith(f"{path}:6: "), errors)
     check("    wishes: c\n" in errors and "    clashes: X\n" in errors, f"the lines are printed: {errors}")
+
+
+def comments():
+    """Only lines of their own are comments, and the help says so; a # elsewhere is a fault, or quoted."""
+    for line, text in NO_COMMENT:
+        faults = faults_of(text)
+        equal([number for number, _ in faults], [line], f"a comment behind something: {text!r} {faults}")
+        check(faults[0][1].endswith("; a comment stands in a line of its own"), f"{text!r}: {faults}")
+    for name in ("Hinge # 12", "# 12", "#12", "C#", "#"):
+        text = f'choice\nwishes: "{name}"\norder: "{name}"\narticle "{name}"\nwishes: "{name}"\narticle\nclashes: "{name}"\n'
+        equal(kitchen.read(written(text)).records[0].name, name.encode(), f"{name} as a name")
+        check("comment" in faults_of(f"{CHOICE}article {name}\n")[0][1], f"{name} without marks")
+    for number in ("#2", "#99999999999"):
+        check("comment" not in faults_of(f"{CHOICE}article X\nwishes: {number}\n")[0][1], f"{number} is meant as a number")
+    for line in ("#", "# x", "#x", "  # x", "##", '#"', "\u00a0#", "\u3000 # x", "#,"):
+        equal(written(f"{line}\n" + KITCHEN.replace("\n", f"\n{line}\n")), written(KITCHEN), f"the comment {line!r}")
+    check(faults_of("#1 rounds\n" + KITCHEN), "a line that begins with # and a digit is no comment")
+    said = "A comment is a line of its own that begins with `#` and no digit behind it."
+    check(said in guide.GUIDE and "A name with `#`" in guide.GUIDE, "the help says where comments stand")
+
+
+def odd_texts(folder):
+    """What is no text, and what would spoil a terminal."""
+    path = folder / "odd.txt"
     path.write_bytes(b"choice\nwishes: K\xfcche\norder:\n")
-    status, output, errors = run("write", path)
+    status, output, errors = quick("write", path)
     check(status == 1 and f"{path}:2: the line is not in UTF-8" in errors, f"a text in Latin-1: {errors}")
+    for encoding in ("utf-16", "utf-16-le", "utf-32"):
+        check(broken(KITCHEN.encode(encoding)), f"a text in {encoding}")
+    for data in (A, F, b"\0", b"\xef\xbb\xbf", b"\xed\xa0\x80", bytes(range(256))):
+        check(broken(data), f"{data[:20]!r} is no text")
     path.write_bytes(b"\x1b[31m\0\n" + b"\x07junk " * 100 + b"\n" * 2 + b"nonsense\n" * 50)
-    status, output, errors = run("write", path)
+    status, output, errors = quick("write", path)
     check(status == 1 and all(line.isprintable() and len(line) < 300 for line in errors.splitlines()), f"junk: {errors!r}")
     check("further faults are not shown" in errors and len(errors.splitlines()) < 50, f"junk in few lines: {errors}")
+    path.write_text(CHOICE + 'article \x1b[2J"X\nwishes: #\x1b[2J, "\x1b[2J", "a\x1b"\narticle "\x1b"\narticle "\x1b"\n')
+    status, output, errors = quick("write", path)
+    check(status == 1 and all(line.isprintable() for line in errors.splitlines()), f"control characters: {errors!r}")
+    for text in ('article "', "article ", "article #", "article X\nwishes: ", "article X\nwishes: #", "article X\nwishes: \u0301"):
+        long = CHOICE + text + "x" * 10**5
+        report = texts.remarks("", long.encode(), faults_of(long))
+        check(report and max(map(len, report.splitlines())) < 600, f"{text} with a long name: {report[:700]}")
     long = CHOICE + "article X\nwishes: a" + " " * 10**6 + "b\n"
-    check(b"no wish" in job.fault_report("", long.encode(), faults_of(long)).encode(), "a line of a million blanks")
+    check("no wish" in texts.remarks("", long.encode(), faults_of(long)), "a line of a million blanks")
+
+
+def broken(data):
+    """Whether bytes are no text that is in order."""
+    try:
+        texts.stated(data)
+        return False
+    except texts.Faulty as faulty:
+        return bool(texts.remarks("", data, faulty.faults))
+
+
+def in_time(seconds, text, line, phrase):
+    """The first fault of a large text is found within so many seconds."""
+    start = time.process_time()
+    faults = faults_of(text)
+    report = texts.remarks("", text.encode(), faults)
+    used = time.process_time() - start
+    label = f"{len(text)} characters from {text[-20:]!r}"
+    check(used < seconds, f"{label}: {used:.1f} seconds of {seconds}")
+    check(faults[0][0] == line and phrase in faults[0][1], f"{label}: {faults[:1]}")
+    check(len(report.splitlines()) <= 2 * texts.MOST_FAULTS + 1, f"{label}: a short report")
+    return faults
+
+
+def large_texts():
+    many = [f"wish {number}" for number in range(20000)]
+    equal(len(in_time(1, CHOICE + "article X\nwishes: a\n" * 20000, 132, "too many articles")), 1, "stopped at the 65th")
+    equal(len(in_time(1, "choice\norder:\nwishes: " + ", ".join(many), 3, "too many wishes")), 1, "stopped at the 65th")
+    equal(len(in_time(1, "choice\norder:\nwishes: " + ",\n".join(many), 67, "too many wishes")), 1, "stopped at the 65th")
+    equal(len(in_time(1, FITTING + "step X\n" * 20000, 38, "too many steps")), 1, "stopped at the 33rd")
+    equal(len(in_time(5, CHOICE + "junk\n" * 100000, 4, "expected")), 100000, "each of the junk lines is a fault")
+    in_time(5, "junk\n" * 100000, 1, '"choice" or "fitting"')
+    in_time(5, CHOICE + "article X\nwishes: " + ", ".join(many * 5), 5, "no wish")
+    in_time(5, CHOICE + "article X\nwishes:" + "," * 300000, 5, "comma")
+    in_time(5, CHOICE + 'article "' + "x" * 10**6, 4, "quotation mark")
+    in_time(5, CHOICE + "article X\nwishes: " + '"\\",' * 100000, 5, "")
+
+
+# ---- one name, two keyboards; blanks of other sorts
+
+ONE, TWO = unicodedata.normalize("NFC", "Tür für Öl"), unicodedata.normalize("NFD", "Tür für Öl")
+
+
+def keyboards(folder):
+    check(ONE != TWO, "two ways to type a name")
+    for a, b in ((ONE, TWO), (TWO, ONE)):
+        text = f"choice\nwishes: {a}, x\norder: {b}\narticle {b}\nwishes: {b}\narticle\nwishes: x\nclashes: {a}\n"
+        numbers = f"choice\nwishes: {a}, x\norder: #0\narticle {b}\nwishes: #0\narticle\nwishes: x\nclashes: #0\n"
+        equal(written(text), written(numbers), "wishes and articles by the other keyboard")
+        equal(kitchen.read(written(text)).records[0].name, b.encode(), "the bytes are those that were typed")
+        equal(written(text.replace(f"order: {b}", "order: x"), b), written(numbers), "--order by the other keyboard")
+        text = f"fitting\nhorizon: 1\nfacts: x, {a}\nstart: {b}\ngoal: {b}\nstep {b}\nneeds: {b}\ngives: {b}\ntakes: {b}\n"
+        equal(written(text), written(text.replace(f": {b}", ": #1")), "facts by the other keyboard")
+        faults = faults_of(f"choice\nwishes: {a}, {b}\norder:\n")
+        check(len(faults) == 1 and faults[0][0] == 2 and "two wishes are named" in faults[0][1], f"two wishes: {faults}")
+        faults = faults_of(f"{CHOICE}article {a}\narticle {b}\narticle\nclashes: {a}\n")
+        check(len(faults) == 1 and faults[0][0] == 7 and "2 articles are named" in faults[0][1], f"two articles: {faults}")
+        twice = f"{CHOICE}article {a}\nwishes: a\narticle {b}\nwishes: a\narticle\nwishes: a\nclashes: #1\n"
+        equal([line for line, _ in texts.stated(twice.encode()).warnings], [6], "two articles are a warning")
+    articles = [reference.Article({0}, set(), ONE.encode()), reference.Article({0}, {0}, TWO.encode())]
+    file = reference.written(reference.Choice(1, {0}, [*articles, reference.Article({0}, {0, 1}, b"x")]))
+    check("clashes: #0\n" in text_of(file).decode() and "clashes: #0, #1\n" in text_of(file).decode(), "both by number")
+    equal(written(text_of(file).decode()), file, "there and back with both")
+    job = kitchen.read(file)
+    equal(words.names(job, {0, 1, 2}), [f"{ONE} (article 0)", f"{TWO} (article 1)", "x"], "both look the same in a sentence")
+    path = folder / "keyboards.txt"
+    path.write_text(f"choice\nwishes: {ONE}\norder:\narticle\nwishes: {ONE}\n")
+    equal(quick("write", path, "--order", TWO), (0, written(path.read_text(), ONE), ""), "--order from the other keyboard")
+
+
+def blanks():
+    for blank in texts.BLANKS:
+        text = re.sub(r"([:,])", rf"{blank}\1{blank}", KITCHEN).replace("\n", f"{blank}\n{blank}")
+        text = f"{blank}{text}".replace("article ", f"article{blank}{blank}")
+        equal(written(text), written(KITCHEN), f"blanks are {blank!r}")
+        equal(written(KITCHEN, f"{blank}a{blank},{blank}b{blank}"), written(KITCHEN, "a, b"), f"--order with {blank!r}")
+        equal(written(KITCHEN, blank), written(KITCHEN, ""), f"--order of {blank!r} only")
+        if blank != " ":
+            faults = faults_of(f"{CHOICE}article X{blank}Y\n")
+            check(len(faults) == 1 and "does not print" in faults[0][1], f"{blank!r} in a name: {faults}")
+            name = kitchen.read(written(f'{CHOICE}article "X{blank}Y"\n')).records[0].name
+            equal(name, f"X{blank}Y".encode(), f"{blank!r} in a quoted name")
+            check(faults_of(f"choice\nwishes: a{blank}b\norder:\n"), f"{blank!r} in the name of a wish")
+    for other in ("\u200b", "\u2060", "\ufeff", "\x0b", "\x0c", "\x85", "\u2028"):
+        check(faults_of(f"{CHOICE}article{other}X\n") and faults_of(f"{CHOICE}article X{other}\n"), f"{other!r} is no blank")
+
+
+# ---- warnings and --order
+
+GOOD = "choice\nwishes: a, b\norder: a\narticle X\nwishes: a\narticle Y\nwishes: b\n"
+READY = "fitting\nhorizon: 1\nfacts: a, b\nstart: a\ngoal: b\nstep X\nneeds: a\ngives: b\n"
+# A text, and its warnings by line.
+WARNED = [
+    (GOOD, []),
+    (READY, []),
+    (GOOD.replace("wishes: a\n", "wishes: b\n"), [(3, 'no article carries the wish "a" of the order')]),
+    (CHOICE, [(3, 'no article carries the wish "a" of the order')]),
+    ("choice\nwishes: a\norder:\n", []),
+    (GOOD + "article X\nwishes: b\n", [(8, 'two articles are named "X"; the first stands in line 4')]),
+    (GOOD + "article X\nwishes: b\narticle X\nwishes: a\n", [(8, "in line 4"), (10, "in line 4")]),
+    (GOOD + "article\nwishes: b\narticle\nwishes: b\n", []),
+    (GOOD + "article Z\n", [(8, "the article carries no wish")]),
+    (GOOD + "article\nclashes: X\n", [(8, "the article carries no wish")]),
+    (READY.replace("gives: b", ""), [(5, 'nothing gives the fact "b" of the goal')]),
+    (READY.replace("goal: b", "goal: a, b").replace("start: a", "start:"), [(5, '"a" of the goal'), (6, 'the step needs "a"')]),
+    (READY + "step Y\nneeds: b\n", []),
+    (READY + "step X\nneeds: b\n", [(9, 'two steps are named "X"; the first stands in line 6')]),
+    (READY.replace("a, b", "a, b, c") + "step Y\nneeds: c\n", [(9, 'the step needs "c", which nothing gives')]),
+    (READY.replace("a, b", "a, b, c") + "step Y\nneeds: c, b\ngives: c\n", []),
+]
+
+
+def warnings(folder):
+    for text, expected in WARNED:
+        found = texts.stated(text.encode()).warnings
+        equal([line for line, _ in found], [line for line, _ in expected], f"warnings of {text!r}: {found}")
+        for (_, message), (_, phrase) in zip(found, expected):
+            check(phrase in message, f"warnings of {text!r}: {message}")
+    for path in SAMPLES:
+        equal(texts.stated(path.read_bytes()).warnings, [], f"{path.name} has no warnings")
+    path = folder / "warned.txt"
+    path.write_text(GOOD + "article X\n")
+    status, output, errors = quick("write", path)
+    equal((status, output), (0, written(path.read_text())), "a text with warnings is written")
+    lines = [f"{path}:8: warning: two articles", "    article X", f"{path}:8: warning: the article carries no wish", "    article X"]
+    check([line.startswith(start) for line, start in zip(errors.splitlines(), lines)] == [True] * 4, errors)
+    path.write_text(CHOICE)
+    status, _, errors = quick("write", path, "--order", "b")
+    equal((status, errors), (0, f'{path}, --order: warning: no article carries the wish "b" of the order\n'), "of --order")
+    path.write_text("choice\nwishes: a\norder: a\n" + "article\n" * 64)
+    status, _, errors = quick("write", path)
+    check(status == 0 and errors.endswith(": 45 further warnings are not shown\n"), f"many warnings: {errors[-200:]}")
+
+
+def orders(folder):
+    """A list in place of the text's order."""
+    path, plan = folder / "order.txt", ROOT / "jobs" / "F.txt"
+    path.write_text(GOOD)
+    for order in ("", "a", "b", "a, b", "#1", '"a",#1'):
+        text = GOOD.replace("order: a", f"order: {order}")
+        equal(quick("write", path, "--order", order), (0, written(text), ""), f"--order {order!r}")
+        equal(written(GOOD.replace("order: a\n", ""), order), written(text), f"--order {order!r} without one in the text")
+    for order, phrase in (
+        ("c", 'no wish is named "c"; expected the name of one, or #0 to #1'),
+        ("#2", "there is no wish #2; expected #0 to #1"),
+        ("a, b,", "the list ends with a comma; expected a further name\n"),
+        (",", "a name is missing in front of a comma"),
+        ("a, #0", "#0 stands twice in the list"),
+        ("a # x", "a comment stands in a line of its own"),
+        ("a\nb", 'expected the name without it, or as "a\\x0Ab"'),
+    ):
+        status, output, errors = quick("write", path, "--order", order, "-o", folder / "order.job")
+        check((status, output) == (1, b"") and errors.startswith(f"{path}, --order: "), f"--order {order!r}: {errors}")
+        check(phrase in errors and not (folder / "order.job").exists(), f"--order {order!r}: {errors}")
+    for order in ("", "a"):
+        status, output, errors = quick("write", plan, "--order", order)
+        check((status, output) == (2, b"") and "is a fitting" in errors, f"a fitting has no order: {errors}")
+    status, output, errors = quick("write", path, "--order", os.fsdecode(b"a, \xff"))
+    check((status, output) == (2, b"") and "not in UTF-8" in errors and "Traceback" not in errors, f"no UTF-8: {errors}")
+    for data, fitting in (
+        (b"fitting", True), (b"\xef\xbb\xbf# x\r\n\xc2\xa0fitting\r", True), (b"# \xff\n\nfitting\n\xff", True),
+        (b"choice", False), (b"", False), (b"# x\xe2\x80\xa8fitting\nchoice", False), (b"fitting\x0b", False),
+    ):
+        equal(texts.is_fitting(data), fitting, f"whether {data!r} is a fitting")
 
 
 # ---- job files
@@ -299,11 +577,12 @@ REFUSED = [
 
 
 def outcome(file):
-    """How the tool's reader takes a file: a refusal, or the file that its job is written as."""
-    reader = job.Reader(file)
-    if reader.refusal:
-        return f"refused {reader.refusal.number} at {reader.refusal.place}"
-    return job.job_bytes(reader.job)
+    """How kitchen.py takes a file: a refusal, or the file that its job is written as."""
+    try:
+        return kitchen.written(kitchen.read(file))
+    except kitchen.Refused as refusal:
+        equal(str(refusal), f"refused {refusal.number} at {refusal.place}", "a refusal in words")
+        return str(refusal)
 
 
 def second_outcome(file):
@@ -324,24 +603,33 @@ def damaged(file):
 def files_refused(folder):
     for file, number, place in REFUSED:
         equal(outcome(file), f"refused {number} at {place}", f"the file {file[:40].hex(' ')}")
+        text = reasons.explained(number, place, kitchen.Reader(file))
+        check(f"Reason {number}: " in text and f"here it is {place}." in text, f"a refusal in words: {text}")
+        check("Read by itself" not in text, f"a refusal in words, with its own file: {text}")
     for base in (A, F, N, M):
         for file in damaged(base):
             equal(outcome(file), second_outcome(file), f"the file {file.hex(' ')}, read by reference/")
+    for file in drawn.over_limits():
+        equal(outcome(file), second_outcome(file), f"the file {file[:20].hex(' ')}, read by reference/")
     path = folder / "refused.job"
     path.write_bytes(A[:-1])
     for command in ("read", "show"):
-        status, output, errors = run(command, path)
+        status, output, errors = quick(command, path)
         check(status == 1 and not output and errors.startswith(f"{path}: refused 2 at 45\nReason 2: "), errors)
         check("the wishes of article 2, but the file has only 7 of them" in errors, errors)
-    status, _, errors = run("show", folder / "missing.job")
-    check(status == 1 and errors == f"{folder / 'missing.job'}: No such file or directory\n", errors)
+    status, _, errors = quick("show", folder / "missing.job")
+    equal((status, errors), (1, f"{folder / 'missing.job'}: No such file or directory\n"), "a missing file")
+    status, _, errors = quick("read", ROOT / "jobs" / "A.txt")
+    check(status == 1 and "make one from it with tools/job write" in errors, f"a text in place of a file: {errors}")
 
 
 NAMES = [
     b"a", b"a", b"", b"Oven", "Küche 60".encode(), b"A, B", b"#3", b"# 3", b"x # y", b"#", b'19" rack', b'"', b'"a"', b"\\", b"\\x41",
     b" a", b"a ", b"\t", b"a\nb", b"a\r", b"\x00", b"\xff\xfe", b"\xc3", b"\xed\xa0\x80", b"order: a", b"wishes :", b"article", b"step x",
     b"choice", b"wish 0", "\u2028".encode(), "\ufeffa".encode(), "\u00a0".encode(), b"x" * 32, b"\x80" * 32, "€".encode() * 10, b"a,", b",",
-]
+    "\u0301".encode(), "\u0301\u0308".encode(), "\u00e9".encode(), "e\u0301".encode(), "\u0301e".encode(), "\u202eab".encode(), "\u200d".encode(),
+    "Article X".encode(), "wishes: a".encode(), "order\u00a0:".encode(), "\u212a".encode(), b"K", "\u3000".encode(), b"\x1b[2J", b"\\", b";",
+]  # fmt: skip
 
 
 def random_job(source):
@@ -360,15 +648,19 @@ def random_job(source):
 def there_and_back():
     """A file that is read to a text and written again is the same file; the text is stable, and so are names in sentences."""
     source = random.Random(1)
-    files = [A, F, N, M] + [reference.written(random_job(source)) for _ in range(60)]
+    found = [A, F, N, M] + [reference.written(random_job(source)) for _ in range(60)]
     named = [reference.Article(set(), set(range(i)), name) for i, name in enumerate(NAMES)]
-    files.append(reference.written(reference.Choice(0, set(), named)))
-    for file in files:
+    found.append(reference.written(reference.Choice(0, set(), named)))
+    for file in found:
         text = text_of(file)
-        equal(job.written(text), file, f"there and back: {file[:60].hex(' ')}")
+        equal(written(text.decode()), file, f"there and back: {file[:60].hex(' ')}")
+        equal(text_of(written(text.decode())), text, "the text is stable")
         check(all(line == line.rstrip() for line in text.decode().split("\n")), "no blank at the end of a line")
-        shown = job.job_table(job.Reader(file).job)
+        job = kitchen.read(file)
+        shown = files.job_table(job)
         check(all(line.isprintable() for line in shown.split("\n")), f"what is shown prints: {shown!r}")
+        called = words.names(job, range(len(job.records)))
+        check(all(map(str.isprintable, called)) and len(set(map(words.alike, map(str.encode, called)))) == len(called), f"{called}")
 
 
 # ---- words
@@ -381,167 +673,624 @@ def stated_reasons():
 
 
 def explanations(folder):
-    reasons = stated_reasons()
-    equal(sorted(reasons), list(range(1, 17)), "the rules have 16 reasons")
-    for number, (wrong, place) in reasons.items():
-        text = job.explained(number)
+    found = stated_reasons()
+    equal(sorted(found), list(range(1, 17)), "the rules have 16 reasons")
+    for number, (wrong, place) in found.items():
+        text = reasons.explained(number)
         check(text.startswith(f"Reason {number}: {wrong}.\n"), f"explain {number}: {text}")
         if number in (2, 3, 4, 5, 6, 7, 8, 11):
             check(f"The place is {place}.\n" in text, f"the place of {number}: {text}")
         check(len(text.splitlines()) == 3, f"explain {number}, three lines: {text}")
-    check(job.NO_KITCHEN in job.explained(14), "14 in words")
-    check(job.NO_PLAN.format("the horizon") in job.explained(15), "15 in words")
-    small, plan, short = folder / "a.job", folder / "f.job", folder / "short.job"
-    small.write_bytes(A[:29] + b"\x02" + A[30:])
-    plan.write_bytes(M)
-    short.write_bytes(N[:-1])
-    for arguments, phrase in [
-        (("6", "29", small), "Byte 29 is number 1 of the 8 bytes that hold the clashes of article 1: the set of 1; only numbers below 1"),
-        (("6", small), "Byte 29 is number 1 of the 8 bytes that hold the clashes of article 1"),
-        (("6", "30", small), "Read by itself, the file is refused 6 at 29."),
-        (("6", "40", small), "The file is not read as far as byte 40"),
-        (("6", "99", small), "The file has 46 bytes, so it has no byte 99."),
-        (("3", "1", small), "Byte 1 holds the count of articles: 3."),
-        (("3", "3", plan), "Byte 3 holds the horizon: 2."),
-        (("6", "8", plan), "Byte 8 is number 1 of the 4 bytes that hold the goal: the set of 1 and 3."),
-        (("4", "12", plan), 'Byte 12 holds the bit map of step 0, "cut": 14, with the bits 1, 2 and 3.'),
-        (("7", "21", plan), 'Byte 21 holds the length of the name of step 0, "cut": 3.'),
-        (("7", "22", plan), 'Byte 22 is number 1 of the 3 bytes that hold the name of step 0: "cut".'),
-        (("1", "0", plan), "Read by itself, the file is a fitting file that is in order."),
-        (("2", str(len(N) - 1), short), "that hold the clashes of article 3, but the file has only 7 of them."),
-        (("14", "0", short), f"Read by itself, the file is refused 2 at {len(N) - 1}."),
-        (("11", "1"), "here it is 1."),
-        (("16",), "no article or step has that name"),
+    check(reasons.NO_KITCHEN in reasons.explained(14), "14 in words")
+    check(reasons.NO_PLAN.format("the horizon") in reasons.explained(15), "15 in words")
+    small, short = A[:29] + b"\x02" + A[30:], N[:-1]
+    for number, place, file, phrase in [
+        (6, 29, small, "Byte 29 is number 1 of the 8 bytes that hold the clashes of article 1: the set of 1; only numbers below 1"),
+        (6, None, small, "Byte 29 is number 1 of the 8 bytes that hold the clashes of article 1"),
+        (6, 30, small, "Read by itself, the file is refused 6 at 29."),
+        (6, 40, small, "The file is not read as far as byte 40"),
+        (6, 99, small, "The file has 46 bytes, so it has no byte 99."),
+        (3, 1, small, "Byte 1 holds the count of articles: 3."),
+        (3, 3, M, "Byte 3 holds the horizon: 2."),
+        (6, 8, M, "Byte 8 is number 1 of the 4 bytes that hold the goal: the set of 1 and 3."),
+        (4, 12, M, 'Byte 12 holds the bit map of step 0, "cut": 14, with the bits 1, 2 and 3.'),
+        (7, 21, M, 'Byte 21 holds the length of the name of step 0, "cut": 3.'),
+        (7, 22, M, 'Byte 22 is number 1 of the 3 bytes that hold the name of step 0: "cut".'),
+        (1, 0, M, "Read by itself, the file is a fitting file that is in order."),
+        (2, len(N) - 1, short, "that hold the clashes of article 3, but the file has only 7 of them."),
+        (14, 0, short, f"Read by itself, the file is refused 2 at {len(N) - 1}."),
+        (11, 2, N, "Here that is a (article 2)."),
+        (11, 99, N, "The file has no article 99."),
     ]:
-        status, output, errors = run("explain", *arguments)
-        check(status == 0 and phrase in output.decode(), f"explain {arguments}: {output.decode()}{errors}")
-    small.write_bytes(N)
-    check("Here that is a (article 2)." in run("explain", "11", "2", small)[1].decode(), "the place of 11 is an article")
-    for number in ("0", "17", "x", "", "9" * 5000):
-        status, _, errors = run("explain", number)
-        check(status == 1 and "expected a number from 1 to 16" in errors, f"explain {number[:9]!r}: {errors}")
+        text = reasons.explained(number, place, kitchen.Reader(file))
+        check(phrase in text, f"explain {number} {place}: {text}")
+    path = folder / "explained.job"
+    path.write_bytes(small)
+    whole = reasons.explained(6, 29, kitchen.Reader(small)).encode()
+    for arguments, stdin, output in (
+        (("6", "29", path), b"", whole),
+        (("6", "29", "-"), small, whole),
+        (("6", "-"), small, reasons.explained(6, None, kitchen.Reader(small)).encode()),
+        (("6", path), b"", reasons.explained(6, None, kitchen.Reader(small)).encode()),
+        (("11", "1"), b"", reasons.explained(11, 1).encode()),
+        (("16",), b"", reasons.explained(16).encode()),
+    ):
+        equal(quick("explain", *arguments, stdin=stdin), (0, output, ""), f"explain {arguments}")
+    for number in ("0", "17", "x", "", "9" * 5000, "٣", os.fsdecode(b"\xff")):
+        status, output, errors = quick("explain", number)
+        check((status, output) == (1, b"") and "expected a number from 1 to 16" in errors, f"explain {number[:9]!r}: {errors}")
+    for arguments, phrase in ((("6", "x", path), "'x' is no place; expected a number"), (("6", "1", path, path), "unrecognized")):
+        status, output, errors = quick("explain", *arguments)
+        check((status, output) == (2, b"") and phrase in errors, f"explain {arguments}: {errors}")
 
 
-# A sample, what kitchen prints for it, and what is told.
+# ---- host/kitchen.py
+
+
+def built(job, source):
+    """A job of reference/, built with kitchen.py; each clash is said at either article."""
+    if isinstance(job, reference.Fitting):
+        steps = [kitchen.step(*step) for step in job.steps]
+        return kitchen.fitting(job.facts, job.horizon, job.start, job.goal, steps)
+    said = [set() for _ in job.articles]
+    for number, article in enumerate(job.articles):
+        for other in article.clashes:
+            for one, two in source.choice((((number, other),), ((other, number),), ((number, other), (other, number)))):
+                said[one].add(two)
+    articles = (kitchen.article(article.wishes, clashes, article.name) for article, clashes in zip(job.articles, said))
+    return kitchen.choice(job.wishes, job.order, articles)
+
+
+def host_jobs():
+    """Jobs that are built are written as reference/ writes them, and read back."""
+    source = random.Random(2)
+    jobs = [random_job(source) for _ in range(60)] + [drawn.drawn_choice(source) for _ in range(100)]
+    jobs += [drawn.drawn_fitting(source) for _ in range(100)] + [drawn.wide_choice(source) for _ in range(3)]
+    for job in jobs:
+        mine = built(job, source)
+        file = kitchen.written(mine)
+        equal(file, reference.written(job), f"{job} is built and written")
+        equal(kitchen.read(file), mine, f"{job} is read back")
+    for file in (*drawn.small_choices(), *drawn.small_fittings()):
+        equal(outcome(file), file, f"{file.hex(' ')} is read and written")
+    job = kitchen.choice(2, {1}, [kitchen.article({0}, {1}, "Tür"), kitchen.article({1}, name=b"\xff")])
+    equal([record.name for record in job.records], ["Tür".encode(), b"\xff"], "a name is a text or bytes")
+    equal([record.sets[1] for record in job.records], [set(), {0}], "a clash is kept at the later article")
+
+
+def article(*arguments, **names):
+    return kitchen.article(*arguments, **names)
+
+
+def host_limits():
+    choice, fitting, step = kitchen.choice, kitchen.fitting, kitchen.step
+    for phrase, build, *arguments in (
+        ("65 articles; a choice has 0 to 64", choice, 0, (), [article()] * 65),
+        ("65 wishes; a choice has 0 to 64", choice, 65, (), []),
+        ("-1 wishes; a choice has 0 to 64", choice, -1, (), []),
+        ("article 0 cannot clash with 0", choice, 0, (), [article((), {0})]),
+        ("article 1 cannot clash with 2", choice, 0, (), [article(), article((), {2})]),
+        ("article 1 cannot clash with -1", choice, 0, (), [article(), article((), {-1})]),
+        ("the wishes of article 1: there is no 2 below 2", choice, 2, (), [article(), article({2})]),
+        ("the wishes of article 0: there is no -1 below 2", choice, 2, (), [article({-1})]),
+        ("the order: there is no 2 below 2", choice, 2, {0, 2}, []),
+        ("the order: there is no -1 below 2", choice, 2, {-1}, []),
+        ("the name of article 0 has 33 bytes", choice, 0, (), [article(name="x" * 33)]),
+        ("the name of article 0 has 34 bytes", choice, 0, (), [article(name="ä" * 17)]),
+        ("article 0 has 3 sets; articles have 2", choice, 2, (), [step({0}, {1})]),
+        ("33 steps; a fitting has 0 to 32", fitting, 0, 0, (), (), [step()] * 33),
+        ("33 facts; a fitting has 0 to 32", fitting, 33, 0, (), (), []),
+        ("-1 facts; a fitting has 0 to 32", fitting, -1, 0, (), (), []),
+        ("17 rounds of the horizon; a fitting has 0 to 16", fitting, 0, 17, (), (), []),
+        ("-1 rounds of the horizon", fitting, 0, -1, (), (), []),
+        ("the start: there is no 1 below 1", fitting, 1, 0, {1}, (), []),
+        ("the goal: there is no 32 below 32", fitting, 32, 0, (), {32}, []),
+        ("the needs of step 0: there is no 1 below 1", fitting, 1, 0, (), (), [step({1})]),
+        ("the gives of step 0: there is no 1 below 1", fitting, 1, 0, (), (), [step((), {1})]),
+        ("the takes of step 0: there is no -1 below 1", fitting, 1, 0, (), (), [step((), (), {-1})]),
+        ("the name of step 0 has 33 bytes", fitting, 0, 0, (), (), [step(name=b"x" * 33)]),
+        ("step 0 has 2 sets; steps have 3", fitting, 2, 0, (), (), [article({0}, {1}, "x")]),
+    ):
+        raised(kitchen.Unusable, phrase, build, *arguments)
+    later = kitchen.Job(kitchen.CHOICE, 0, None, [set()], [article((), {1}), article()])
+    raised(kitchen.Unusable, "the clashes of article 0: there is no 1 below 0", kitchen.written, later)
+    raised(TypeError, "", article, (), (), 5)
+    largest = choice(64, range(64), [article(range(64), range(number), "x" * 32) for number in range(64)])
+    equal(kitchen.read(kitchen.written(largest)), largest, "the largest choice")
+    largest = fitting(32, 16, range(32), range(32), [step(range(32), range(32), range(32), "x" * 32)] * 32)
+    equal(kitchen.read(kitchen.written(largest)), largest, "the largest fitting")
+
+
+def host_rest(folder):
+    equal(kitchen.number_of(()), 0, "the number of the empty set")
+    equal(kitchen.number_of([0, 2, 2, 63]), 2**63 + 5, "the number of a set")
+    for number in (0, 1, 6, 2**63, 2**64 - 1, 2**63 + 2**32 + 1):
+        equal(kitchen.number_of(kitchen.members_of(number)), number, f"the members of {number}")
+    equal(kitchen.members_of(2**63 + 5), {0, 2, 63}, "the members of a number")
+    equal([repr(kitchen.NoSelection), repr(kitchen.NoPlan)], ["NoSelection", "NoPlan"], "answers without a value")
+    text, loop = folder / "no library.so", folder / "loop.so"
+    text.write_text("no library")
+    loop.symlink_to(loop)
+    for path in (folder / "missing.so", folder, text, loop, text / "x.so", _ctypes.__file__, str(folder / "missing.so")):
+        raised(kitchen.Unusable, f"{path} is no library of ours", kitchen.Library, path)
+    check("import kitchen" in kitchen.__doc__, "the module has an example")
+
+
+# ---- answers that are tried
+
+GROUPED = "choice\nwishes: a, b, c\norder: a, b, c\narticle\nwishes: a\narticle\nwishes: a, b\nclashes: #0\narticle\nwishes: c\n"  # B
+NO_KITCHEN = "choice\nwishes: a, b\norder: a, b\narticle\nwishes: a\narticle\nwishes: b\nclashes: #0\n"
+NO_PLAN = "fitting\nhorizon: 4\nfacts: a, b\nstart: a\ngoal: a, b\nstep\nneeds: a\ngives: b\ntakes: a\n"
+# Both facts in one round, and a step that gives both; each is a plan of one round.
+SHORT = "fitting\nhorizon: 2\nfacts: a, b, c\nstart:\ngoal: a, b\nstep\ngives: a\nstep\ngives: b\nstep\ngives: a, b\nstep\ntakes: a\n"
+# A text, what is printed of it, and the answer.
 TOLD = [
-    ("A", "chosen 2\naside\n", "The kitchen has 1 article: article 2.\nIt covers every wish of the order.\nNo article is set aside.\n"),
-    ("A", "chosen 0 2\naside 1\n", (
-        "The kitchen has 2 articles: article 0 and article 2.\n"
-        "They cover every wish of the order, and no two of them exclude each other.\n"
-        "Set aside is: article 1.\nNo kitchen that covers this order can have it.\n"
-    )),
-    ("kitchen", "chosen 0 3 6 9 14 16 18\naside 11 12\n", (
-        "The kitchen has 7 articles: Corner larder unit 120; Oven column 60 (Backofen); Wall unit with compact steamer; "
-        "Smooth front (grifflos); Worktop granite 30 mm; Downdraft hob (Muldenlüfter); Sink unit 60, waste sorting.\n"
-        "They cover every wish of the order, and no two of them exclude each other.\n"
-        "Set aside are: Worktop laminate 38 mm; Worktop oak, oiled.\n"
-        "No kitchen that covers this order can have any of them.\n"
-    )),
-    ("impossible", "refused 14 at 0\n", job.NO_KITCHEN + "\n"),
-    ("F", "rounds 2\n1: 0\n2: 1 2\n", (
-        "The fitting takes 2 rounds.\nRound 1: step 0.\nRound 2: step 1 and step 2, in any order or at the same time.\n"
-        "Then the goal is reached. No plan has fewer rounds.\n"
-    )),
-    ("fitting", "rounds 8\n1: 0 1\n2: 2\n3: 3\n4: 4 6\n5: 5\n6: 7 11\n7: 8 9 10\n8: 12 13\n", (
-        "The fitting takes 8 rounds.\n"
-        "Round 1: Lay the water pipes and Pull the cables, in any order or at the same time.\n"
-        "Round 2: Plaster the walls.\n"
-        "Round 3: Let the plaster dry.\n"
-        "Round 4: Lay the floor and Hang the wall units, in any order or at the same time.\n"
-        "Round 5: Set the base units.\n"
-        "Round 6: Fit the worktop and Hang the fronts, in any order or at the same time.\n"
-        "Round 7: Connect the sink, Connect the hob (Kochfeld) and Tile the wall (Fliesenspiegel), "
-        "in any order or at the same time.\n"
-        "Round 8: Turn water and power on; Clean the room, in any order or at the same time.\n"
-        "Then the goal is reached. No plan has fewer rounds.\n"
-    )),
-    ("fitting", "refused 15 at 0\r\n", job.NO_PLAN.format("10 rounds") + "\n"),
+    (KITCHEN, "chosen 1\naside 0\n", kitchen.Selection({1}, {0})),
+    (GROUPED, "chosen 1 2\naside 0\n", kitchen.Selection({1, 2}, {0})),
+    ("choice\nwishes:\norder:\narticle\n", "chosen\naside\n", kitchen.Selection(set(), set())),
+    (NO_KITCHEN, "refused 14 at 0\n", kitchen.NoSelection),
+    (SHORT, "rounds 1\n1: 2\n", kitchen.Plan([{2}])),
+    (SHORT, "rounds 1\n1: 0 1\n", kitchen.Plan([{0, 1}])),
+    (SHORT, "rounds 1\n1: 0 1 2\n", kitchen.Plan([{0, 1, 2}])),
+    (NO_PLAN, "refused 15 at 0\n", kitchen.NoPlan),
+    (NO_PLAN.replace("start: a", "start: a, b"), "rounds 0\n", kitchen.Plan([])),
 ]
-# A sample, an output that is not its own, and a part of the message.
+# Whatever the job is, this is no answer.
+NO_ANSWER = [
+    "", "\n", "chosen", "chosen\n", "chosen \naside\n", "aside\nchosen\n", "rounds\n", "rounds \n", "rounds 1\n", "rounds -1\n", "rounds 1\n1:\n",
+    "refused\n", "refused 9 at 0\n", "refused 1 at 0\n", "refused 2 at 45\n", "refused 13 at 0\n", "refused 16 at 0\n", "refused 17 at 0\n",
+    "refused 14 at 1\n", "refused 15 at 1\n", "refused 14 at 0", "refused 15 at 0", "refused 14 at 0\r\n", "refused 15 at 0\r\n", "refused 014 at 0\n",
+    "refused 14 at 0\n\n", "refused 15 at 0\n ", " refused 14 at 0\n", "Refused 14 at 0\n", "refused 14 at 0\nrefused 14 at 0\n", "\0", "rounds 1\n1: ٠\n",
+]  # fmt: skip
+# A text, an output that cannot be its own, and a part of the message.
 NOT_TOLD = [
-    ("A", "", 'expected "chosen" and "aside"'),
     ("A", "chosen 2\n", 'expected "chosen" and "aside"'),
+    ("A", "chosen 2\naside", 'expected "chosen" and "aside"'),
+    ("A", "chosen 2\r\naside\r\n", 'expected "chosen" and "aside"'),
+    ("A", "chosen 2\naside\n\n", 'expected "chosen" and "aside"'),
+    ("A", "chosen  2\naside\n", 'expected "chosen" and "aside"'),
+    ("A", "chosen 2 \naside\n", 'expected "chosen" and "aside"'),
+    ("A", "chosen 2\naside\nchosen 2\naside\n", 'expected "chosen" and "aside"'),
+    ("A", "chosen 02\naside\n", "numbers do not rise"),
+    ("A", "chosen 2 0\naside\n", "numbers do not rise"),
+    ("A", "chosen 2 2\naside\n", "numbers do not rise"),
+    ("A", "chosen 2\naside 1 0\n", "numbers do not rise"),
     ("A", "chosen 3\naside\n", "the file has no article 3"),
+    ("A", "chosen 2\naside 3\n", "the file has no article 3"),
+    ("A", "chosen 100\naside\n", 'expected "chosen" and "aside"'),
     ("A", "chosen 0 1\naside\n", "article 1 and article 0 exclude each other"),
     ("A", "chosen 0\naside\n", "no chosen article carries wish 1"),
     ("A", "chosen\naside\n", "no chosen article carries wish 0"),
-    ("A", "rounds 0\n", "the file is a choice file that is in order"),
-    ("A", "refused 15 at 0\n", "the file is a choice file that is in order"),
-    ("A", "refused 2 at 45\n", "the file is a choice file that is in order"),
-    ("A", "refused 17 at 0\n", "there is no reason 17"),
-    ("F", "chosen\naside\n", "the file is a fitting file that is in order"),
-    ("F", "refused 14 at 0\n", "the file is a fitting file that is in order"),
+    ("A", "chosen 2\naside 0\n", "the set aside is not the one that is defined"),
+    ("A", "chosen 2\naside 2\n", "the set aside is not the one that is defined"),
+    ("A", "refused 14 at 0\n", "and articles [2] are one"),
+    ("A", "refused 15 at 0\n", 'expected "chosen" and "aside"'),
+    ("A", "rounds 0\n", 'expected "chosen" and "aside"'),
+    ("A", "rounds 1\n1: 2\n", 'expected "chosen" and "aside"'),
+    (GROUPED, "chosen 1 2\naside\n", "the set aside is not the one that is defined"),
+    (GROUPED, "chosen 1 2\naside 0 2\n", "the set aside is not the one that is defined"),
+    (GROUPED, "refused 14 at 0\n", "it says that there is none"),
+    (NO_KITCHEN, "chosen 0 1\naside\n", "exclude each other"),
+    ("F", "chosen\naside\n", 'expected "rounds" and the rounds'),
+    ("F", "refused 14 at 0\n", 'expected "rounds" and the rounds'),
+    ("F", "refused 15 at 0\n", "and steps [0, 1, 2], one a round, are one"),
     ("F", "rounds 3\n1: 0\n2: 1 2\n", "expected the rounds 1 to 3"),
+    ("F", "rounds 1\n1: 0\n2: 1 2\n", "expected the rounds 1 to 1"),
     ("F", "rounds 2\n1: 0\n3: 1 2\n", "expected the rounds 1 to 2"),
+    ("F", "rounds 2\n2: 0\n1: 1 2\n", "expected the rounds 1 to 2"),
+    ("F", "rounds 02\n1: 0\n2: 1 2\n", "expected the rounds 1 to 02"),
+    ("F", "rounds 2\n01: 0\n2: 1 2\n", "expected the rounds 1 to 2"),
+    ("F", "rounds 2\n1: 00\n2: 1 2\n", "numbers do not rise"),
+    ("F", "rounds 2\n1: 0\n2: 2 1\n", "numbers do not rise"),
+    ("F", "rounds 2\n1: 0\n2: 1 2", 'expected "rounds" and the rounds'),
+    ("F", "rounds 2\r\n1: 0\r\n2: 1 2\r\n", 'expected "rounds" and the rounds'),
+    ("F", "rounds 2\n1:0\n2: 1 2\n", 'expected "rounds" and the rounds'),
     ("F", "rounds 1\n1: 3\n", "the file has no step 3"),
     ("F", "rounds 1\n1: 1\n", "in round 1, step 1 needs fact 1, which does not hold"),
     ("F", "rounds 2\n1: 0\n2: 1\n", "fact 3 of the goal does not hold in the end"),
     ("F", "rounds 0\n", "fact 2 of the goal does not hold in the end"),
+    ("F", "rounds 3\n1: 0\n2:\n3: 1 2\n", "round 2 is empty"),
+    ("F", "rounds 4\n1: 0\n2: 1\n3: 2\n4: 2\n", "4 rounds are more than the horizon has"),
     ("fitting", "rounds 3\n1: 0 1\n2: 2 4\n3: 3\n", "in round 2, step 2 takes what step 4 needs or gives"),
+    (SHORT, "rounds 2\n1: 0\n2: 1\n", "there is none of at most 1 rounds, and steps [2], one a round, are one"),
+    (SHORT, "rounds 1\n1: 0 3\n", "in round 1, step 3 takes what step 0 needs or gives"),
+    (SHORT, "refused 15 at 0\n", "it says that there is none of at most 2 rounds"),
+    (NO_PLAN, "rounds 1\n1: 0\n", "fact 0 of the goal does not hold in the end"),
+    (NO_PLAN.replace("start: a", "start: a, b"), "refused 15 at 0\n", "and steps [], one a round, are one"),
 ]
 
 
-def sentences(folder):
-    for name, output, expected in TOLD:
-        path = folder / f"{name}.job"
-        equal(run("tell", path, stdin=output.encode()), (0, expected.encode(), ""), f"tell {name} {output!r}")
-    for name, output, phrase in NOT_TOLD:
-        try:
-            found = job.told(output, job.Reader((folder / f"{name}.job").read_bytes()))
-            check(False, f"{name} has {output!r} told: {found}")
-        except job.Mismatch as mismatch:
-            check(phrase in str(mismatch), f"tell {name} {output!r}: {mismatch}")
-    status, _, errors = run("tell", folder / "F.job", stdin=b"\xff")
-    check(status == 1 and errors.startswith("This is not what kitchen prints for "), errors)
-    for file, number, place in REFUSED:
-        text = job.told(f"refused {number} at {place}\n", job.Reader(file))
-        check(f"Reason {number}: " in text and f"here it is {place}." in text, f"a refusal told: {text}")
-        check("Read by itself" not in text, f"a refusal told with its own file: {text}")
-    empty = b"\x43\x01\x00" + bytes(9)
-    text = "The order has no wish, so the kitchen needs no article.\nNo article is set aside.\n"
-    equal(job.told("chosen\naside\n", job.Reader(empty)), text, "nothing is ordered")
-    ready = b"\x46\x00\x00\x00" + bytes(8)
-    text = "The fitting takes no round: the goal holds at the start.\n"
-    equal(job.told("rounds 0\n", job.Reader(ready)), text, "nothing is to be done")
+def job_of(text):
+    """The job of a text, or of a sample by its name."""
+    sample = ROOT / "jobs" / f"{text}.txt" if "\n" not in text else None
+    return texts.stated(sample.read_bytes() if sample else text.encode()).job
+
+
+def answer(job, output):
+    return (asking.choice_answer if job.kind is kitchen.CHOICE else asking.plan_answer)(job, output)
+
+
+def answers():
+    for text, output, expected in TOLD:
+        equal(answer(job_of(text), output), expected, f"{output!r} of {text!r}")
+    for text, output, phrase in NOT_TOLD:
+        raised(rules.Broken, phrase, answer, job_of(text), output)
+    for output in NO_ANSWER:
+        for text in ("A", "F", "kitchen", NO_KITCHEN, NO_PLAN):
+            raised(rules.Broken, "", answer, job_of(text), output)
+
+
+def printed_junk():
+    """What a program prints that is not kitchen, whatever its bytes are."""
+    real = asking.printed
+    try:
+        for output in (b"", b"\xff\xfe", b"chosen 2\naside\n\x80", b"\0" * 1000, "chosen ２\naside\n".encode(), b"junk\x1b[2J" * 10000):
+            asking.printed = lambda file, limit=None: output
+            raised(asking.Failed, "this cannot be what kitchen prints of this job", asking.asked, job_of("A"))
+            raised(asking.Failed, "this cannot be what kitchen prints of this job", asking.asked, job_of("F"))
+            try:
+                asking.asked(job_of("A"))
+            except asking.Failed as failed:
+                check(str(failed).isprintable() and len(str(failed)) < 1500, f"junk is told in a line: {failed!r}")
+        asking.printed = lambda file, limit=None: b"chosen 2\naside\n"
+        equal(asking.asked(job_of("A")), kitchen.Selection({2}, set()), "what kitchen prints of A")
+    finally:
+        asking.printed = real
+
+
+def keeps(trial, *arguments):
+    """Whether a trial finds no rule broken."""
+    try:
+        trial(*arguments)
+        return True
+    except rules.Broken:
+        return False
+
+
+def choice_rules():
+    """The rules of a choice, beside reference/ on drawn jobs: every set of articles is tried."""
+    source, found, none = random.Random(3), 0, 0
+    for job in [drawn.drawn_choice(source) for _ in range(300)]:
+        file = reference.written(job)
+        mine, n = kitchen.read(file), len(job.articles)
+        subsets = [second.of(number) for number in range(2**n)]
+        selections = [s for s in subsets if keeps(rules.try_selection, mine, s)]
+        equal(selections, second.selections(job), f"the selections of {job}")
+        groups = rules.own_groups(mine)
+        equal([next(g for g, group in enumerate(groups) if i in group) for i in range(n)], second.own_groups(job), f"groups of {job}")
+        every = set(range(n))
+        struck = every - second.supported(job, second.own_groups(job), every, job.order) if job.order else set()
+        equal([s for s in subsets if keeps(rules.try_aside, mine, s)], [struck], f"the set aside of {job}")
+        equal(rules.set_aside(mine), struck, f"the set aside of {job}")
+        equal(keeps(rules.try_no_selection, mine), not selections, f"that there is none of {job}")
+        if selections:
+            expected = kitchen.Selection(selections[0], struck)
+            equal(asking.choice_answer(mine, second.offer(file)), expected, f"what the second program prints of {job}")
+        found, none = found + bool(selections), none + (not selections)
+    check(found > 50 and none > 50, f"{found} jobs with a selection, {none} without")
+    for job in [drawn.wide_choice(source) for _ in range(10)]:
+        mine, every = kitchen.read(reference.written(job)), set(range(64))
+        struck = every - second.supported(job, second.own_groups(job), every, job.order)
+        equal(rules.set_aside(mine), struck, "the set aside of 64 articles")
+
+
+def drawn_rounds(job, source, most):
+    """Rounds that may follow each other, until the goal holds or there are so many; and whether it holds."""
+    facts, found = set(job.start), []
+    while not job.goal <= facts and len(found) < most:
+        possible = [r for r in second.rounds(job, facts) if r]
+        if not possible:
+            return found, False
+        found.append(source.choice(possible))
+        facts = second.after(job, facts, found[-1])
+    return found, job.goal <= facts
+
+
+def plan_rules():
+    """The rules of a plan, beside reference/ on drawn jobs, with rounds that are drawn."""
+    source, kept, refused = random.Random(4), 0, 0
+    for job in [drawn.drawn_fitting(source) for _ in range(300)]:
+        mine, fewest = kitchen.read(reference.written(job)), second.fewest(job)
+        tries = [drawn_rounds(job, source, job.horizon + 1)[0] for _ in range(6)]
+        tries += [[drawn.some(source, len(job.steps), 0.4) for _ in range(source.randrange(4))] for _ in range(6)]
+        for rounds in tries:
+            holds = second.is_plan(job, rounds) and len(rounds) <= job.horizon and all(rounds)
+            found = keeps(rules.try_plan, mine, rounds)
+            check(holds or not found, f"{rounds} is no plan for {job}")
+            check(found or not holds or len(rounds) > fewest, f"{rounds} is a shortest plan for {job}")
+            lines = "".join(f"{k}:{second.shown(r)}\n" for k, r in enumerate(rounds, 1))
+            same = keeps(asking.plan_answer, mine, f"rounds {len(rounds)}\n{lines}")
+            equal(same, found, f"{rounds} as they are printed, for {job}")
+            kept, refused = kept + found, refused + (not found)
+        single = rules.found_plan(mine, job.horizon)
+        within = single is not None and len(single) <= job.horizon and second.is_plan(job, [{a} for a in single])
+        check(single is None or within, f"{single}, one a round, for {job}")
+        check(fewest is not None or single is None, f"there is no plan for {job}, and {single} was found")
+        check(keeps(rules.try_no_plan, mine, job.horizon) == (single is None), f"that there is none for {job}")
+        holds = set(range(job.facts)) & job.start
+        for steps in ({a} for a in range(len(job.steps))):
+            equal(rules.after(mine, holds, steps), second.after(job, holds, steps), f"the facts after {steps} of {job}")
+    check(kept > 100 and refused > 100, f"{kept} plans, {refused} that are none")
+
+
+# ---- streams
+
+SMALL_TEXT = ROOT / "jobs" / "A.txt"
+
+
+def standard_input(folder):
+    """A text or a file from standard input."""
+    text = SMALL_TEXT.read_bytes()
+    equal(quick("write", "-", stdin=text), (0, A, ""), "write -")
+    equal(quick("write", "-", "-o", folder / "in.job", stdin=text)[0], 0, "write - -o")
+    equal((folder / "in.job").read_bytes(), A, "what write - -o wrote")
+    equal(quick("read", "-", stdin=A), (0, text_of(A), ""), "read -")
+    equal(quick("show", "-", stdin=A), (0, files.job_table(kitchen.read(A)).encode(), ""), "show -")
+    status, output, errors = quick("write", "-", stdin=CHOICE.encode() + b"nonsense\n")
+    check((status, output) == (1, b"") and errors.startswith("standard input:4: expected "), errors)
+    status, output, errors = quick("write", "-", "--order", "c", stdin=CHOICE.encode())
+    check((status, output) == (1, b"") and errors.startswith("standard input, --order: no wish"), errors)
+    status, output, errors = quick("show", "-", stdin=b"x")
+    check((status, output) == (1, b"") and errors.startswith("standard input: refused 1 at 0\n"), errors)
+
+
+def own_text(folder):
+    """A text is not overwritten, however it is named."""
+    text, link, hard = folder / "text.txt", folder / "link.txt", folder / "hard.txt"
+    text.write_text(KITCHEN)
+    link.symlink_to(text)
+    hard.hardlink_to(text)
+    for source, target in ((text, text), (text, link), (link, text), (text, hard), (text, folder / "." / "text.txt")):
+        status, output, errors = quick("write", source, "-o", target)
+        check((status, output) == (1, b"") and "is the text itself" in errors, f"{source} onto {target}: {errors}")
+    with open(text, "rb") as opened:
+        done = subprocess.run([sys.executable, "-B", TOOL, "write", "-", "-o", text], stdin=opened, capture_output=True)
+    status, output, errors = done.returncode, done.stdout, done.stderr.decode()
+    check((status, output) == (1, b"") and "is the text itself" in errors, f"from standard input: {errors}")
+    equal(text.read_text(), KITCHEN, "the text is as it was")
+    equal(run("write", text, "-o", "-", cwd=folder), (0, written(KITCHEN), ""), "-o - is standard output")
+    check(not (folder / "-").exists(), "-o - makes no file")
+
+
+def on_terminal(*arguments):
+    """The status of a call whose standard output is a terminal, what came there, and the errors."""
+    mine, its = pty.openpty()
+    try:
+        with call(*arguments, stdout=its, stderr=subprocess.PIPE) as process:
+            errors = process.stderr.read().decode()
+        came = b""
+        while select.select([mine], [], [], 0.1)[0]:
+            came += os.read(mine, 10000)
+    finally:
+        os.close(its)
+        os.close(mine)
+    return process.returncode, came, errors
+
+
+def terminals(folder):
+    for arguments in (("write", SMALL_TEXT), ("write", SMALL_TEXT, "-o", "-"), ("write", SMALL_TEXT, "--order", "")):
+        status, came, errors = on_terminal(*arguments)
+        check((status, came) == (2, b"") and "expected -o FILE or a pipe" in errors, f"{arguments}: {came!r} {errors}")
+    target = folder / "terminal.job"
+    equal(on_terminal("write", SMALL_TEXT, "-o", target), (0, b"", ""), "write -o at a terminal")
+    equal(target.read_bytes(), A, "what it wrote")
+    status, came, errors = on_terminal("show", target)
+    check(status == 0 and b"A choice with 3 articles" in came and not errors, f"show at a terminal: {came!r} {errors}")
+
+
+def closed_streams(folder):
+    job = folder / "A.job"
+    for arguments, stream, phrase in (
+        (("write", SMALL_TEXT), ">&-", "standard output: Bad file descriptor"),
+        (("show", job), ">&-", "standard output: Bad file descriptor"),
+        (("--help",), ">&-", "standard output: Bad file descriptor"),
+        (("--version",), ">&-", "standard output: Bad file descriptor"),
+        ((), ">&-", "standard output: Bad file descriptor"),
+        (("write", SMALL_TEXT), ">/dev/full", "standard output: No space left on device"),
+        (("--help",), ">/dev/full", "standard output: No space left on device"),
+        (("write", "--help"), ">/dev/full", "standard output: No space left on device"),
+        (("--version",), ">/dev/full", "standard output: No space left on device"),
+        (("write", SMALL_TEXT, "-o", "/dev/full"), "", "/dev/full: No space left on device"),
+        (("write", "-"), "<&-", "standard input is closed"),
+        (("read", "-"), "<&-", "standard input is closed"),
+        (("show", "-"), "<&-", "standard input is closed"),
+        (("explain", "6", "-"), "<&-", "standard input is closed"),
+        (("show", "-"), "0>/dev/null", "standard input: Bad file descriptor"),
+        (("show", "-"), "</dev/zero", "standard input: it has more than 4000000 bytes"),
+        (("show", "/dev/zero"), "", "/dev/zero: it has more than 4000000 bytes"),
+        (("write", "/dev/zero"), "", "/dev/zero: it has more than 4000000 bytes"),
+        (("write", folder), "", f"{folder}: Is a directory"),
+        (("write", SMALL_TEXT, "-o", folder), "", f"{folder}: Is a directory"),
+        (("write", SMALL_TEXT, "-o", folder / "no folder" / "a.job"), "", "a.job: No such file or directory"),
+        (("write", SMALL_TEXT, "-o", job / "a.job"), "", "a.job: Not a directory"),
+        (("write", ""), "", '"": No such file or directory'),
+        (("write", SMALL_TEXT, "-o", ""), "", '"": No such file or directory'),
+        (("show", "x" * 300), "", "File name too long"),
+        (("show", "a\x1b[31m\nb"), "", '"a\\x1B[31m\\x0Ab": No such file or directory'),
+        (("show", os.fsdecode(b"\xff")), "", '"\\xFF": No such file or directory'),
+    ):
+        command = ["sh", "-c", f'"$0" "$@" {stream}', TOOL, *arguments]
+        done = subprocess.run(command, capture_output=True)
+        errors = done.stderr.decode()
+        equal((done.returncode, done.stdout, errors.count("\n")), (1, b"", 1), f"{arguments} {stream}: {errors}")
+        check(phrase in errors, f"{arguments} {stream}: {errors}")
+    for arguments, status in ((("show", job), 0), (("show", folder), 1), (("bogus",), 2), (("write", folder / "faulty.txt"), 1)):
+        for stream in ("2>&-", "2>/dev/full"):
+            done = subprocess.run(["sh", "-c", f'"$0" "$@" {stream}', TOOL, *arguments], capture_output=True)
+            equal((done.returncode, done.stderr), (status, b""), f"{arguments} {stream}")
+
+
+def rights(folder):
+    """Files that may not be read or written, where that can be tried."""
+    if os.geteuid() == 0:
+        return
+    text, closed = folder / "secret.txt", folder / "closed"
+    text.write_text(KITCHEN)
+    text.chmod(0)
+    closed.mkdir(mode=0o500)
+    for arguments in (("write", text), ("write", SMALL_TEXT, "-o", text), ("write", SMALL_TEXT, "-o", closed / "a.job")):
+        status, output, errors = quick(*arguments)
+        check((status, output) == (1, b"") and errors.endswith(": Permission denied\n"), f"{arguments}: {errors}")
+
+
+def ended_in_time(process):
+    """The errors of a process that ends by itself; one that does not is killed."""
+    try:
+        process.wait(60)
+    except subprocess.TimeoutExpired:
+        process.kill()
+    return process.stderr.read()
+
+
+def ended(folder):
+    """A reader that goes away, Ctrl-C, and two runs at once."""
+    for arguments in (("show", folder / "A.job"), ("--help",), ("write", SMALL_TEXT)):
+        out, into = os.pipe()
+        os.close(out)
+        with call(*arguments, stdout=into, stderr=subprocess.PIPE) as process:
+            errors = process.stderr.read()
+        os.close(into)
+        equal((process.returncode, errors), (1, b""), f"{arguments}, and nobody reads")
+    listen = lambda: signal.signal(signal.SIGINT, signal.default_int_handler)
+    with call("write", "-", stdin=subprocess.PIPE, stderr=subprocess.PIPE, preexec_fn=listen) as process:
+        process.stdin.write(b"#\n" * 500000)  # more than a pipe holds, so it is being read
+        time.sleep(1)  # and now it waits for more
+        process.send_signal(signal.SIGINT)
+        errors = ended_in_time(process)
+    equal((process.returncode, errors), (1, b"tools/job: interrupted, so there is no answer\n"), "Ctrl-C")
+    targets = [folder / name for name in ("one.job", "two.job", "both.job", "both.job")]
+    for process in [call("write", SMALL_TEXT, "-o", target) for target in targets]:
+        equal(process.wait(), 0, "runs at once")
+    equal([target.read_bytes() for target in targets], [A] * 4, "what they wrote")
+
+
+# ---- usage
+
+COMMANDS = {
+    "ask": ("TEXT", "--order LIST", "--next N", "--json", "- for standard input"),
+    "advise": ("TEXT", "--order LIST", "- for standard input"),
+    "write": ("TEXT", "--order LIST", "-o FILE", "- for standard input", "standard output"),
+    "read": ("FILE", "- for standard input"),
+    "show": ("FILE", "- for standard input"),
+    "explain": ("NUMBER", "[PLACE] [FILE]", "- for standard input"),
+}
+# Calls that cannot be, and a part of what is said.
+MISUSED = [
+    (("bogus",), "invalid choice: 'bogus'"),
+    (("tell", "x"), "invalid choice: 'tell'"),
+    (("wri", "x"), "invalid choice: 'wri'"),
+    (("",), "invalid choice: ''"),
+    ((os.fsdecode(b"\xff"),), "invalid choice"),
+    (("--bogus",), "required: COMMAND"),
+    (("--versio",), "required: COMMAND"),
+    (("write",), "required: TEXT"),
+    (("write", "a", "b"), "unrecognized arguments: b"),
+    (("write", "a", "-o"), "argument -o: expected one argument"),
+    (("write", "a", "-x"), "unrecognized arguments: -x"),
+    (("write", "a", "--ord", "x"), "unrecognized arguments: --ord x"),
+    (("write", "a", "--json"), "unrecognized arguments: --json"),
+    (("write", "a", "--order"), "argument --order: expected one argument"),
+    (("write", "-x.txt"), "required: TEXT"),
+    (("write", "a", "\x1b[2J"), "unrecognized arguments: ?[2J"),
+    (("read",), "required: FILE"),
+    (("show", "a", "b"), "unrecognized arguments: b"),
+    (("show", "a", "-o", "b"), "unrecognized arguments: -o b"),
+    (("explain",), "required: NUMBER\n"),
+    (("ask",), "required: TEXT"),
+    (("ask", "a", "--next", "0"), "'0' is no count; expected 1 or more"),
+    (("ask", "a", "--next", "-1"), "'-1' is no count"),
+    (("ask", "a", "--next", "many"), "'many' is no count"),
+    (("ask", "-", "-"), "standard input can be read only once"),
+    (("advise", "a", "b"), "unrecognized arguments: b"),
+]
 
 
 def usage(folder):
-    for arguments in ((), ("--help",), ("-h",)):
-        equal(run(*arguments), (0, job.HELP.encode(), ""), f"help by {arguments}")
-    for arguments in (("bogus",), ("write",), ("write", "a", "b"), ("write", "a", "-o"), ("read",), ("show", "a", "b"), ("tell",)):
-        status, output, errors = run(*arguments)
-        check((status, output) == (2, b"") and errors.endswith("\n" + job.USAGE), f"usage by {arguments}: {errors}")
-        check("expected one " in errors or "there is no command bogus" in errors, f"what is wrong with {arguments}: {errors}")
-    text = folder / "text.txt"
-    text.write_text(KITCHEN)
-    status, _, errors = run("write", text, "-o", text)
-    check(status == 1 and "is the text itself" in errors and text.read_text() == KITCHEN, f"a text is not overwritten: {errors}")
-    for arguments, stream, phrase in (
-        (("write", text), ">&-", "standard output: Bad file descriptor"),
-        (("--help",), ">&-", "standard output: Bad file descriptor"),
-        (("tell", folder / "A.job"), "<&-", "standard input is closed"),
-        (("write", folder), "", "Is a directory"),
-    ):
-        command = ["sh", "-c", f'"$0" "$@" {stream}', TOOL, *arguments]
-        done = subprocess.run(command, capture_output=True, text=True)
-        equal((done.returncode, done.stderr.count("\n")), (1, 1), f"{arguments} {stream}: {done.stderr}")
-        check(phrase in done.stderr, f"{arguments} {stream}: {done.stderr}")
-    status, output, errors = run("write", ROOT / "jobs" / "A.txt", "-o", folder / "no folder" / "a.job")
-    check(status == 1 and not output and "No such file or directory" in errors, errors)
+    status, whole, errors = quick("--help")
+    equal((status, errors), (0, ""), "--help")
+    for arguments in ((), ("-h",)):
+        equal(quick(*arguments), (0, whole, ""), f"help by {arguments}")
+    status, output, errors = quick("--version")
+    check((status, errors) == (0, "") and f"interface {kitchen.VERSION} of include/kitchen.h" in output.decode(), "--version")
+    for command, parts in COMMANDS.items():
+        check(re.search(rf"(?m)^ +{command} ", whole.decode()), f"--help names {command}")
+        status, output, errors = quick(command, "--help")
+        text = " ".join(output.decode().split())
+        check((status, errors) == (0, "") and f"usage: tools/job {command} " in text, f"{command} --help: {errors}")
+        check(all(part in text for part in parts), f"{command} --help says its arguments: {text}")
+    for arguments, phrase in MISUSED:
+        status, output, errors = quick(*arguments)
+        check((status, output) == (2, b"") and phrase in errors, f"{arguments}: status {status}, {output!r}, {errors}")
+        check(errors.startswith("tools/job: ") and "Traceback" not in errors, f"{arguments}: {errors}")
+    (folder / "-x.txt").write_text(KITCHEN)
+    equal(run("write", "--", "-x.txt", cwd=folder), (0, written(KITCHEN), ""), "a path that begins with -, behind --")
+    equal(run("write", "./-x.txt", "-o-x.job", cwd=folder), (0, b"", ""), "a path that begins with -, behind ./")
+    equal((folder / "-x.job").read_bytes(), written(KITCHEN), "-o without a blank")
     check(TOOL.stat().st_mode & 0o111, "tools/job can be executed")
+
+
+def locales(folder):
+    """A locale that knows ASCII only."""
+    plain = os.environ | {"LC_ALL": "C", "PYTHONUTF8": "0", "PYTHONCOERCECLOCALE": "0"}
+    path = folder / "Küche.txt"
+    path.write_text(f"choice\nwishes: {ONE}\norder:\narticle {ONE}\nwishes: {TWO}\n", encoding="utf-8")
+    for language in (plain, os.environ | {"LANG": "C", "LC_ALL": "C"}):
+        status, output, errors = run("--help", env=language)
+        check((status, errors) == (0, "") and "ä has 2" in output.decode(), f"--help in C: {errors}")
+        equal(run("write", path, "--order", ONE, env=language), (0, written(path.read_text("utf-8"), ONE), ""), "write")
+        status, output, errors = run("write", path, "--order", "Ölofen", env=language)
+        check(status == 1 and f"{path}, --order: no wish is named \"Ölofen\"" in errors, f"faults in C: {errors}")
+        status, output, errors = run("read", "-", stdin=written(path.read_text("utf-8")), env=language)
+        check(status == 0 and f"article {ONE}\n" in output.decode(), f"read in C: {errors}")
+        status, output, errors = run("show", folder / "Tür", env=language)
+        equal((status, errors), (1, f"{folder / 'Tür'}: No such file or directory\n"), f"a missing file in C")
+        status, output, errors = run("Tür", env=language)
+        check((status, output) == (2, b"") and "invalid choice" in errors, f"misuse in C: {errors}")
+
+
+def helpful(folder):
+    """What the help says is so."""
+    text = " ".join(run("--help")[1].decode().split())
+    for phrase in (
+        "64 articles, 64 wishes",
+        "32 steps, 32 facts, a horizon of 16 rounds",
+        "32 bytes of an article or step; a letter such as ä has 2",
+        "Of several kitchens the one with the smallest number comes, so what stands first in the text is preferred.",
+        "0 there is a kitchen, there is a plan; or what was asked for is done",
+        "1 a text or file is at fault, or there is no answer",
+        "2 the tool was called in another way than it can be",
+        '3 there is none: "no such kitchen", "no such plan"',
+        "Of several texts: 1 if one failed, else 3 if one has none.",
+        " ".join(guide.CHOICE_EXAMPLE.split()),
+        " ".join(guide.FITTING_EXAMPLE.split()),
+    ):
+        check(phrase in text, f"--help says: {phrase}")
+    limits = [kitchen.CHOICE.limit, kitchen.FITTING.limit, kitchen.FITTING.horizon, kitchen.LONGEST_NAME]
+    equal(limits, [64, 32, 16, 32], "the limits that the help names")
+    statuses = [commands.DONE, commands.FAILED, commands.MISUSED, commands.NONE]
+    equal(statuses, [0, 1, 2, 3], "the statuses that the help names")
+    check("--" not in re.sub(r"--(order|next|json|help|version)\b", "", text), "no other option is named")
+    for name, example in (("choice", guide.CHOICE_EXAMPLE), ("fitting", guide.FITTING_EXAMPLE)):
+        path = folder / f"example {name}.txt"
+        path.write_text(example)
+        equal(quick("write", path), (0, written(example), ""), f"the example of a {name}")
+        equal(texts.stated(example.encode()).warnings, [], f"the example of a {name} has no warnings")
+    equal(answer(job_of(guide.CHOICE_EXAMPLE), "refused 14 at 0\n"), kitchen.NoSelection, "no kitchen for the example")
+    plan = kitchen.Plan([{0}, {1}])
+    equal(answer(job_of(guide.FITTING_EXAMPLE), "rounds 2\n1: 0\n2: 1\n"), plan, "a plan for the example")
 
 
 def main():
     with tempfile.TemporaryDirectory() as name:
-        folder = pathlib.Path(name)
-        samples(folder)
-        texts_in_order()
-        texts_with_faults(folder)
-        files_refused(folder)
-        there_and_back()
-        explanations(folder)
-        sentences(folder)
-        usage(folder)
+        folder = pathlib.Path(name).resolve()
+        for part in (samples, texts_with_faults, odd_texts, keyboards, warnings, orders, files_refused, explanations):
+            part(folder)
+        for part in (texts_in_order, comments, large_texts, blanks, there_and_back):
+            part()
+        for part in (host_jobs, host_limits, answers, printed_junk, choice_rules, plan_rules):
+            part()
+        for part in (host_rest, standard_input, own_text, terminals, closed_streams, rights, ended, usage, locales, helpful):
+            part(folder)
     for failure in failures:
         print(f"FAILED {failure}")
     print(f"{checks} checks" + (f", {len(failures)} failed" if failures else ""))

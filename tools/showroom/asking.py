@@ -73,7 +73,8 @@ def plan_answer(job, output):
     if not found:
         raise Broken('expected "rounds" and the rounds, or "refused 15 at 0"')
     lines = [line.partition(":") for line in found[2].splitlines()]
-    if [line[0] for line in lines] != [str(number) for number in range(1, int(found[1]) + 1)]:
+    numbers = [str(number) for number in range(1, len(lines) + 1)]
+    if found[1] != str(len(lines)) or [line[0] for line in lines] != numbers:
         raise Broken(f"expected the rounds 1 to {found[1]}, each in its line")
     rounds = [numbers_in(job, line[2]) for line in lines]
     try_plan(job, rounds)

@@ -1,6 +1,7 @@
 """The commands of `tools/job`, and its status."""
 
 import argparse
+import contextlib
 import json
 import os
 import sys
@@ -13,9 +14,11 @@ from showroom.guide import GUIDE, SUMMARY
 from showroom.page import page
 from showroom.reasons import REASONS, explained
 from showroom.texts import NUMBER, Faulty, is_fitting, remarks, stated
+from showroom.words import clean, printed
 
 DONE, FAILED, MISUSED, NONE = 0, 1, 2, 3
-STANDARD_INPUT = "-"
+STANDARD = "-"  # stands for standard input, and behind -o for standard output
+LARGEST = 4_000_000  # bytes of a text or job file; none comes near it
 
 
 class Trouble(Exception):
@@ -29,40 +32,55 @@ class Misuse(Exception):
 # ---- what is read and written
 
 
+@contextlib.contextmanager
+def naming(what):
+    """What goes wrong with a file is told with its name. Where a pipe has no reader any more, nothing is told."""
+    try:
+        yield
+    except BrokenPipeError:
+        raise
+    except OSError as trouble:
+        raise Trouble(f"{what}: {trouble.strerror or trouble}") from None
+
+
 def contents(path):
-    if path != STANDARD_INPUT:
-        with open(path, "rb") as file:
-            return file.read()
-    if sys.stdin is None:
+    if path == STANDARD and sys.stdin is None:
         raise Trouble("standard input is closed")
-    return sys.stdin.buffer.read()
+    with naming(shown(path)), open(0 if path == STANDARD else path, "rb", closefd=path != STANDARD) as file:
+        found = file.read(LARGEST + 1)
+    if len(found) > LARGEST:
+        raise Trouble(f"{shown(path)}: it has more than {LARGEST} bytes, so it is neither a text nor a job file")
+    return found
 
 
 def shown(path):
     """A path in a message."""
-    return "standard input" if path == STANDARD_INPUT else path
+    return "standard input" if path == STANDARD else printed(os.fsencode(path)) or '""'
 
 
 def emit(output):
     """Writes to standard output. It is closed here, so that what cannot be written is known."""
-    with open(1, "wb", closefd=False) as out:
+    with naming("standard output"), open(1, "wb", closefd=False) as out:
         out.write(output)
 
 
 def note(message):
-    if sys.stderr is not None:
-        sys.stderr.buffer.write(message.encode("utf-8", "replace"))
-        sys.stderr.flush()
+    """Writes to standard error. Where that cannot be written, the status says what there is to say."""
+    with contextlib.suppress(Trouble, BrokenPipeError):
+        if sys.stderr is not None:
+            with naming("standard error"), open(2, "wb", closefd=False) as out:
+                out.write(clean(message).encode())
 
 
 def put(output, target, source):
     """Writes to a file, or to standard output where none is named. The text itself is not overwritten."""
     if target is None:
         return emit(output)
-    if source != STANDARD_INPUT and os.path.exists(target) and os.path.samefile(source, target):
-        raise Trouble(f"{target} is the text itself; expected another file behind -o")
-    with open(target, "wb") as out:
-        out.write(output)
+    with naming(shown(target)):
+        if os.path.exists(target) and os.path.samestat(os.stat(0 if source == STANDARD else source), os.stat(target)):
+            raise Trouble(f"{shown(target)} is the text itself; expected another file behind -o")
+        with open(target, "wb") as out:
+            out.write(output)
 
 
 def read_text(path, text, order=None):
@@ -85,7 +103,7 @@ def accepted(path):
 
 
 def lines_of(lines):
-    return "".join(line + "\n" for line in lines).encode("utf-8", "replace")
+    return clean("".join(line + "\n" for line in lines)).encode()
 
 
 def status_of(answer):
@@ -133,12 +151,12 @@ def json_line(path, found):
 
 def all_texts(options):
     """All texts are read before one is answered, so that misuse comes first. What cannot be read stands as its error."""
-    if options.texts.count(STANDARD_INPUT) > 1:
+    if options.texts.count(STANDARD) > 1:
         raise Misuse("standard input can be read only once")
     for path in options.texts:
         try:
             yield path, suits(path, contents(path), options, "order", "next")
-        except (Trouble, OSError) as trouble:
+        except Trouble as trouble:
             yield path, trouble
 
 
@@ -150,7 +168,7 @@ def ask(options):
             emit(lines_of(([""] if number else []) + [shown(path)]))
         try:
             status, output = ask_one(path, text, options)
-        except (Trouble, Failed, OSError) as trouble:
+        except (Trouble, Failed) as trouble:
             status, output = FAILED, b""
             message = words_of(trouble, path)
             note(message)
@@ -194,17 +212,42 @@ def show(options):
 
 
 def explain(options):
-    number, rest = options.number, list(options.rest)
+    number, place, file = options.number, options.place, options.file
     if not NUMBER.fullmatch(number) or int(number) not in REASONS:
         raise Trouble(f"{number!r} is no reason; expected a number from 1 to {len(REASONS)}")
-    place = int(rest.pop(0)) if rest and NUMBER.fullmatch(rest[0]) else None
-    if len(rest) > 1:
-        raise Misuse(f"expected one FILE, found {len(rest)}")
-    emit(explained(int(number), place, Reader(contents(rest[0])) if rest else None).encode())
+    if place is not None and not NUMBER.fullmatch(place):
+        if file is not None:
+            raise Misuse(f"{place!r} is no place; expected a number")
+        place, file = None, place
+    place = None if place is None else int(place)
+    emit(explained(int(number), place, None if file is None else Reader(contents(file))).encode())
     return DONE
 
 
 # ---- arguments
+
+
+class Arguments(argparse.ArgumentParser):
+    """Help goes out as all else does, and what cannot be taken is misuse."""
+
+    def _print_message(self, message, file=None):
+        emit(message.encode())
+
+    def error(self, message):
+        raise Misuse(f"{message}\n{self.format_usage().rstrip()}")
+
+
+def listed(text):
+    """A list in UTF-8, whatever the locale took its bytes for."""
+    try:
+        return os.fsencode(text).decode()
+    except UnicodeDecodeError:
+        raise argparse.ArgumentTypeError("the list is not in UTF-8; expected UTF-8") from None
+
+
+def target(path):
+    """The file behind -o; None for standard output."""
+    return None if path == STANDARD else path
 
 
 def several(text):
@@ -216,7 +259,7 @@ def several(text):
 
 def parser():
     form = argparse.RawDescriptionHelpFormatter
-    top = argparse.ArgumentParser("tools/job", description=SUMMARY, epilog=GUIDE, formatter_class=form, allow_abbrev=False)
+    top = Arguments("tools/job", description=SUMMARY, epilog=GUIDE, formatter_class=form, allow_abbrev=False)
     top.add_argument("--version", action="version", version=f"tools/job, for interface {VERSION} of include/kitchen.h")
     commands = top.add_subparsers(metavar="COMMAND", required=True)
 
@@ -227,31 +270,37 @@ def parser():
 
     def takes_text(part):
         part.add_argument("text", metavar="TEXT", help="the text, - for standard input")
-        part.add_argument("--order", metavar="LIST", help='an order in place of the text\'s own, as "corner larder, no handles"')
+        takes_order(part, "text's")
+
+    def takes_order(part, whose):
+        example = 'as "corner larder, no handles"'
+        part.add_argument("--order", metavar="LIST", type=listed, help=f"an order in place of the {whose} own, {example}")
+
+    def takes_target(part, what):
+        part.add_argument("-o", dest="output", metavar="FILE", type=target, help=f"{what}; without it, standard output")
 
     part = command("ask", ask, "a kitchen or a plan for each text, or that there is none")
     part.add_argument("texts", metavar="TEXT", nargs="+", help="a text, - for standard input")
-    part.add_argument("--order", metavar="LIST", help='an order in place of the texts\' own, as "corner larder, no handles"')
+    takes_order(part, "texts'")
     part.add_argument("--next", metavar="N", type=several, help="up to N further kitchens, by rising number (needs tools/library)")
     part.add_argument("--json", action="store_true", help="a line of JSON for each text")
     takes_text(command("advise", advise, "why, why not, what else"))
     part = command("page", draw, "the answer and the advice as one page for a browser")
     takes_text(part)
-    part.add_argument("-o", dest="output", metavar="FILE", help="the page; without it, standard output")
+    takes_target(part, "the page")
     part = command("write", write, "a job file from a text")
     takes_text(part)
-    part.add_argument("-o", dest="output", metavar="FILE", help="the job file; without it, standard output")
+    takes_target(part, "the job file")
     for name, action, sentence in (("read", read, "a text from a job file"), ("show", show, "a job file as a table")):
         command(name, action, sentence).add_argument("file", metavar="FILE", help="the job file, - for standard input")
     part = command("explain", explain, "what a refusal means, and what stands at its place")
     part.add_argument("number", metavar="NUMBER", help="the number of the reason")
-    part.add_argument("rest", metavar="[PLACE] [FILE]", nargs="*", help="its place, and the job file that was refused")
+    part.add_argument("place", metavar="PLACE", nargs="?", help="its place")
+    part.add_argument("file", metavar="FILE", nargs="?", help="the job file that was refused, - for standard input")
     return top
 
 
 def words_of(trouble, path=None):
-    if isinstance(trouble, OSError):
-        return f"{trouble.filename or 'standard output'}: {trouble.strerror}\n"
     where = f"{shown(path)}: " if path is not None and isinstance(trouble, Failed) else ""
     return where + str(trouble).rstrip() + "\n"
 
@@ -263,8 +312,10 @@ def main(arguments):
             return DONE
         options = parser().parse_args(arguments)
         return options.action(options)
-    except (Trouble, Failed, OSError) as trouble:
+    except (Trouble, Failed) as trouble:
         note(words_of(trouble))
+        return FAILED
+    except BrokenPipeError:
         return FAILED
     except Misuse as misuse:
         note(f"tools/job: {misuse}\n")

@@ -2,11 +2,10 @@
 
 import difflib
 import re
-import unicodedata
 from collections import namedtuple
 
 from kitchen import CHOICE, FITTING, KINDS, LONGEST_NAME, Job, Record
-from showroom.words import decoded, quoted, series
+from showroom.words import alike, brief, cited, decoded, series
 
 MOST_FAULTS = 20  # that are shown at once
 LONGEST_HINT = 100  # a longer word is not compared with the names that there are
@@ -15,7 +14,7 @@ ORDER = 0  # stands for the line of a fault in an order that was given in place 
 # Every character that is a blank and nothing else: what a word processor or a web page puts in place of a space, too.
 BLANKS = " \t\u00a0\u1680\u2000\u2001\u2002\u2003\u2004\u2005\u2006\u2007\u2008\u2009\u200a\u202f\u205f\u3000"
 BLANK = f"[{BLANKS}]"
-QUOTED = r'"(?:[^"\\]|\\.)*"'
+QUOTED = r'"[^"\\]*(?:\\.[^"\\]*)*"'
 COMMENT = re.compile(rf"{BLANK}*#(?![0-9])")
 ITEM = re.compile(rf"{BLANK}*({QUOTED}(?={BLANK}*(?:,|$))|[^,]*){BLANK}*(,|$)")
 ESCAPE = re.compile(rb'\\(?:(["\\])|x([0-9A-Fa-f]{2})|)')
@@ -76,11 +75,6 @@ def split(text):
         at = found.end()
         if not found[2]:
             return items
-
-
-def alike(name):
-    """What two names have in common that are one word typed on two keyboards: ü as one character, or as u and a mark."""
-    return unicodedata.normalize("NFC", decoded(name))
 
 
 class Names:
@@ -162,7 +156,9 @@ class Draft:
     def close(self):
         """No list goes on any more."""
         if self.open:
-            self.fault(self.open[1], "the list ends with a comma; expected a further name, in this line or the next")
+            line = self.open[1]
+            where = "" if line == ORDER else ", in this line or the next"
+            self.fault(line, f"the list ends with a comma; expected a further name{where}")
         self.open = None
 
     def head_words(self):
@@ -215,11 +211,12 @@ class Draft:
             return self.unquoted(line, text[1:-1])
         if '"' in text:
             form = 'expected the whole name in quotation marks, with \\" for a mark inside'
-            return self.fault(line, f"{text} has a quotation mark; {form}", text)
+            return self.fault(line, f"{brief(text)} has a quotation mark; {form}", text)
         if "#" in text:
-            return self.fault(line, f'{text} has a #; expected the name as {quoted(text.encode())}, with the marks', text)
+            form = f"expected the name as {cited(text.encode())}, with the marks"
+            return self.fault(line, f"{brief(text)} has a #; {form}", text)
         if not text.isprintable():
-            form = f"expected the name without it, or as {quoted(text.encode())}"
+            form = f"expected the name without it, or as {cited(text.encode())}"
             return self.fault(line, f"the name has a character that does not print; {form}")
         return text.encode()
 
@@ -242,7 +239,7 @@ class Draft:
                 self.stop(line, f"too many {self.kind.members}; expected at most {self.kind.limit}")
             name = self.name(line, text)
             if name is not None and alike(name) in seen:
-                self.fault(line, f"two {self.kind.members} are named {quoted(name)}; expected different names")
+                self.fault(line, f"two {self.kind.members} are named {cited(name)}; expected different names")
             names.append(name)
             seen.add(None if name is None else alike(name))
         return Names(names)
@@ -263,7 +260,8 @@ class Draft:
         if text.startswith("#"):
             if NUMBER.fullmatch(text[1:]) and int(text[1:]) < len(names):
                 return int(text[1:])
-            return self.fault(line, f"there is no {what} {text}; expected {span}", re.sub("^#[0-9]*", "", text))
+            behind = "" if re.fullmatch("#[0-9]+", text) else text
+            return self.fault(line, f"there is no {what} {brief(text)}; expected {span}", behind)
         name = self.name(line, text)
         if name is None:
             return None
@@ -273,11 +271,11 @@ class Draft:
         if numbers:
             several = self.kind.members if what == self.kind.member else self.kind.records
             which = series([f"#{number}" for number in numbers], "or")
-            return self.fault(line, f"{len(numbers)} {several} are named {quoted(name)}; expected a number, {which}")
+            return self.fault(line, f"{len(numbers)} {several} are named {cited(name)}; expected a number, {which}")
         worthwhile = len(self.faults) < MOST_FAULTS and len(name) <= LONGEST_HINT
         near = names.near(name, bound) if worthwhile else None
-        hint = f" (near: {quoted(near)})" if near else ""
-        self.fault(line, f"no {what} is named {quoted(name)}; expected the name of one, or {span}{hint}")
+        hint = f" (near: {cited(near)})" if near else ""
+        self.fault(line, f"no {what} is named {cited(name)}; expected the name of one, or {span}{hint}")
 
     def members(self, field, what, names, own=None):
         """The set that a field states. What an article clashes with has to be lower than its own number."""
@@ -286,7 +284,7 @@ class Draft:
             number = self.reference(line, text, what, names, bound)
             if number is None:
                 continue
-            shown = text if text[0] in '"#' else f'"{text}"'
+            shown = brief(text if text[0] in '"#' else f'"{text}"')
             if number in found:
                 self.fault(line, f"{shown} stands twice in the list; expected once")
             if number == own:
@@ -332,14 +330,14 @@ class Draft:
         for numbers in entries.numbers.values():
             for number in numbers[1:]:
                 entry, first = self.entries[number], self.entries[numbers[0]].line
-                yield entry.line, f"two {self.kind.records} are named {quoted(entry.name)}; the first stands in line {first}"
+                yield entry.line, f"two {self.kind.records} are named {cited(entry.name)}; the first stands in line {first}"
         yield from self.unfulfilled(job, names) if self.kind is CHOICE else self.unreached(job, names)
 
     def unfulfilled(self, job, names):
         """Ordered wishes that no article carries, and articles that carry none."""
         carried = set().union(*(record.sets[0] for record in job.records))
         for wish in sorted(job.sets[0] - carried):
-            yield self.head["order"].line, f"no article carries the wish {quoted(names[wish])} of the order"
+            yield self.head["order"].line, f"no article carries the wish {cited(names[wish])} of the order"
         for entry, record in zip(self.entries, job.records):
             if not record.sets[0]:
                 yield entry.line, "the article carries no wish"
@@ -349,10 +347,10 @@ class Draft:
         start, goal = job.sets
         given = start.union(*(record.sets[1] for record in job.records))
         for fact in sorted(goal - given):
-            yield self.head["goal"].line, f"nothing gives the fact {quoted(names[fact])} of the goal"
+            yield self.head["goal"].line, f"nothing gives the fact {cited(names[fact])} of the goal"
         for entry, record in zip(self.entries, job.records):
             for fact in sorted(record.sets[0] - given):
-                yield entry.line, f"the step needs {quoted(names[fact])}, which nothing gives"
+                yield entry.line, f"the step needs {cited(names[fact])}, which nothing gives"
 
 
 def stated(text, order=None):
@@ -375,7 +373,8 @@ def remarks(path, text, found, word=""):
             report.append(f"{path}, --order: {word}{message}")
             continue
         report.append(f"{path}:{number}: {word}{message}")
-        line = "".join(c if c.isprintable() else " " for c in lines[number - 1].decode("utf-8", "replace")).strip()
+        start = lines[number - 1].strip()[:1000].decode("utf-8", "replace")
+        line = "".join(c if c.isprintable() else " " for c in start).strip()
         if line:
             report.append("    " + (line if len(line) <= 120 else line[:120] + " ..."))
     if len(found) > MOST_FAULTS:

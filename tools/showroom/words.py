@@ -1,5 +1,9 @@
 """How names and numbers stand in a sentence."""
 
+import unicodedata
+
+LONGEST = 140  # characters of a name in a message; a quoted name of an article or step has fewer
+
 
 def counted(count, one, several):
     return f"{count} {one if count == 1 else several}"
@@ -30,17 +34,36 @@ def quoted(name):
     return '"' + "".join(map(shown, decoded(name))) + '"'
 
 
+def cited(name):
+    """A name in quotation marks in a message, where a long one is cut."""
+    return brief(quoted(name))
+
+
+def brief(text):
+    return text if len(text) <= LONGEST else text[:LONGEST] + " ..."
+
+
+def clean(text):
+    """Lines for a terminal: a question mark stands for what does not print."""
+    return "".join(c if c.isprintable() or c == "\n" else "?" for c in text)
+
+
+def alike(name):
+    """What two names have in common that are one word typed on two keyboards: ü as one character, or as u and a mark."""
+    return unicodedata.normalize("NFC", decoded(name))
+
+
 def printed(name):
     """A name as people read it: quoted only where something in it does not print."""
     return decoded(name) if decoded(name).isprintable() else quoted(name)
 
 
 def called(job, number):
-    """An article or step in a sentence: its name, and its number where there is no name or another has the same."""
+    """An article or step in a sentence: its name, and its number where there is no name or another looks the same."""
     name, plain = job.records[number].name, f"{job.kind.record} {number}"
     if not name:
         return plain
-    alone = sum(record.name == name for record in job.records) == 1
+    alone = sum(alike(record.name) == alike(name) for record in job.records) == 1
     return printed(name) if alone else f"{printed(name)} ({plain})"
 
 
