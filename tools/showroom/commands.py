@@ -3,6 +3,7 @@
 import argparse
 import json
 import os
+import shlex
 import sys
 
 from kitchen import CHOICE, VERSION, NoPlan, NoSelection, Reader, written
@@ -121,10 +122,14 @@ def ask_one(path, text, options):
         return status_of(answer), json_line(path, telling.data(text, answer, following))
     lines = telling.told(text, answer)
     if answer is NoSelection or answer is NoPlan:
-        lines.append(f"`tools/job advise {path}` says why.")
+        lines.append(f"`{advise_command(path, options.order)}` says why.")
     elif text.job.kind is CHOICE:
         lines += telling.aside_told(text, answer.aside)
     return status_of(answer), lines_of(lines + ([] if following is None else telling.further_told(text, following)))
+
+
+def advise_command(path, order):
+    return shlex.join(["tools/job", "advise", path, *([] if order is None else ["--order", order])])
 
 
 def json_line(path, found):
