@@ -282,6 +282,19 @@ def word(number):
     return ctypes.c_uint64(number)
 
 
+def group_bytes(groups):
+    for group in groups:
+        if not 0 <= group <= 255:
+            raise Unusable(f"{group} is not the number of a group, from 0 to 255")
+    return bytes(groups)
+
+
+def own_goals(file):
+    """The whole order as the only goal, and none if it is empty. What is no choice file has none: the call refuses it."""
+    job = Reader(file).job
+    return [job.sets[0]] if job and job.kind is CHOICE and job.sets[0] else []
+
+
 class Library:
     """The shared library, with a method for each call. A path may be given; otherwise it is looked for."""
 
@@ -329,7 +342,7 @@ class Library:
 
     def filter_pass(self, file, live, goal, groups=None):
         """The live articles that are supported. Without groups our own partition is lent."""
-        groups = self.partition(file) if groups is None else bytes(groups)
+        groups = self.partition(file) if groups is None else group_bytes(groups)
         return members_of(self.answered("pass", file, groups, number_of(live), number_of(goal))[0])
 
     def choose(self, file, floor=0, goals=None, groups=None):
@@ -337,10 +350,8 @@ class Library:
 
         Without groups our own partition is lent; without goals the whole order is the only one (none if it is empty).
         """
-        groups = self.partition(file) if groups is None else bytes(groups)
-        if goals is None:
-            order = read(file).sets[0]
-            goals = [order] if order else []
+        groups = self.partition(file) if groups is None else group_bytes(groups)
+        goals = own_goals(file) if goals is None else goals
         lent = (ctypes.c_uint64 * len(goals))(*(word(number_of(goal)).value for goal in goals))
         status, first, second = self.call("choose", file, groups, lent, floor)
         if status == NO_SELECTION:
@@ -351,12 +362,11 @@ class Library:
 
     def selections(self, file, floor=0):
         """All selections at or above the floor, by rising number. There may be very many: take as many as are wanted."""
-        while floor <= LARGEST:
-            answer = self.choose(file, floor)
-            if answer is NoSelection:
-                return
+        while (answer := self.choose(file, floor)) is not NoSelection:
             yield answer
             floor = number_of(answer.articles) + 1
+            if floor > LARGEST:
+                return
 
     # -- fitting files
 

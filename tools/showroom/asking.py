@@ -3,16 +3,17 @@
 import pathlib
 import re
 import subprocess
+from itertools import islice
 
 from kitchen import CHOICE, Library, NoPlan, NoSelection, Plan, Refused, Selection, Unusable, number_of, written
-from showroom.rules import Broken, try_aside, try_no_plan, try_no_selection, try_plan, try_selection
+from showroom.rules import Broken, try_aside, try_no_plan, try_no_selection, try_plan, try_selection, try_smallest
 
 ROOT = pathlib.Path(__file__).resolve().parent.parent.parent
 # Where the program stands in the project, built by `rt check kitchen`, and where in an unpacked distribution.
 PLACES = (ROOT / "target" / "bin" / "kitchen", ROOT / "bin" / "kitchen")
 
 CHOSEN = re.compile(r"chosen((?: [0-9]{1,2})*)\naside((?: [0-9]{1,2})*)\n")
-ROUNDS = re.compile(r"rounds ([0-9]{1,2})\n((?:[0-9]{1,2}:(?: [0-9]{1,2})*\n)*)")
+ROUNDS = re.compile(r"rounds (0|[1-9][0-9]?)\n((?:[0-9]{1,2}:(?: [0-9]{1,2})*\n)*)")
 
 
 class Failed(Exception):
@@ -31,13 +32,13 @@ def printed(file, limit=None):
     path = program()
     try:
         run = subprocess.run([path], input=file, capture_output=True, timeout=limit)
-    except subprocess.TimeoutExpired:
-        raise
     except OSError as trouble:
         raise Failed(f"{path} cannot be run: {trouble.strerror}") from None
-    if run.returncode or run.stderr:
+    if run.returncode:
         ended = f"was ended by signal {-run.returncode}" if run.returncode < 0 else f"ended with status {run.returncode}"
         raise Failed(f"{path} {ended}, so there is no answer")
+    if run.stderr:
+        raise Failed(f"{path} wrote to standard error, which it never does, so there is no answer")
     return run.stdout
 
 
@@ -61,6 +62,7 @@ def choice_answer(job, output):
         raise Broken('expected "chosen" and "aside", or "refused 14 at 0"')
     chosen, aside = numbers_in(job, found[1]), numbers_in(job, found[2])
     try_selection(job, chosen)
+    try_smallest(job, chosen)
     try_aside(job, aside)
     return Selection(chosen, aside)
 
@@ -95,15 +97,15 @@ def asked(job, limit=None):
 def further(job, first, count):
     """The next selections behind the first, by rising number, from the library's own calls."""
     try:
-        library, file, found = Library(), written(job), []
-        if library.choose(file) != first:
-            raise Failed("the library chooses something else than kitchen; build both anew")
-        for answer in library.selections(file, number_of(first.articles) + 1):
-            if len(found) == count:
-                break
+        found = list(islice(Library().selections(written(job)), count + 1))
+        for answer in found:
             try_selection(job, answer.articles)
             try_aside(job, answer.aside)
-            found.append(answer)
+        numbers = [number_of(answer.articles) for answer in found]
+        if numbers != sorted(set(numbers)):
+            raise Broken("the numbers of the selections do not rise")
     except (Unusable, Refused, Broken) as trouble:
-        raise Failed(f"no further kitchens: {trouble}") from None
-    return found
+        raise Failed(f"further kitchens cannot be told: {trouble}; without --next the first is told") from None
+    if found[:1] != [first]:
+        raise Failed("the library chooses something else than kitchen; build both anew")
+    return found[1:]

@@ -4,6 +4,7 @@ import argparse
 import contextlib
 import json
 import os
+import shlex
 import sys
 
 from kitchen import CHOICE, VERSION, NoPlan, NoSelection, Reader, written
@@ -139,10 +140,14 @@ def ask_one(path, text, options):
         return status_of(answer), json_line(path, telling.data(text, answer, following))
     lines = telling.told(text, answer)
     if answer is NoSelection or answer is NoPlan:
-        lines.append("`tools/job advise` says more.")
+        lines.append(f"`{advise_command(path, options.order)}` says why.")
     elif text.job.kind is CHOICE:
         lines += telling.aside_told(text, answer.aside)
     return status_of(answer), lines_of(lines + ([] if following is None else telling.further_told(text, following)))
+
+
+def advise_command(path, order):
+    return shlex.join(["tools/job", "advise", path, *([] if order is None else ["--order", order])])
 
 
 def json_line(path, found):

@@ -1,0 +1,1259 @@
+"""Tests of what tools/job answers. Called as `python3 -B tests/showroom.py [SECTION...]` in the repository's root.
+
+It needs target/bin/kitchen and target/lib/libkitchen.so. Each section prints a line of counts, `name: count, name: count`;
+the last line is `N checks`, and the status 0; or what failed is printed, and the status is 1. Files are written to a
+temporary folder only. `--fault K` makes a mistake in the tool on purpose (FAULTS below): then the status has to be 1.
+
+Answers are compared with reference/, which is written from docs/RULES.md alone, and advice with searches over all sets of
+articles and all rounds, which stand here.
+"""
+
+import argparse
+import functools
+import json
+import os
+import pathlib
+import random
+import re
+import shlex
+import shutil
+import subprocess
+import sys
+import tempfile
+from collections import Counter
+from itertools import combinations
+
+sys.dont_write_bytecode = True
+ROOT = pathlib.Path(__file__).resolve().parent.parent
+sys.path[:0] = [str(ROOT / "tools"), str(ROOT / "host")]
+sys.path.append(str(ROOT / "reference"))
+
+import drawn as draws  # noqa: E402
+import kitchen  # noqa: E402
+import reader  # noqa: E402
+import rules  # noqa: E402
+from showroom import advising, asking, commands, telling  # noqa: E402
+from showroom.files import job_text  # noqa: E402
+from showroom.texts import stated  # noqa: E402
+
+TOOL = ROOT / "tools" / "job"
+KITCHEN = ROOT / "target" / "bin" / "kitchen"
+LIBRARY = ROOT / "target" / "lib" / "libkitchen.so"
+SAMPLES = sorted((ROOT / "jobs").glob("*.txt"))
+ANSWERS = ("No such", "A kitchen of", "A plan of", "needs no article", "takes no round")
+MOST_SHOWN = 10  # failures of a section
+
+checks = 0
+failures = []
+
+
+def check(condition, label):
+    global checks
+    checks += 1
+    if not condition:
+        failures.append(label)
+
+
+def equal(found, expected, label):
+    check(found == expected, f"{label}\n  expected {expected!r}\n  found    {found!r}")
+
+
+SECTIONS = {}
+
+
+def section(name, *wanted):
+    """A section takes its counts and a folder; each of these counts has to be at least 1 in the end."""
+
+    def register(function):
+        SECTIONS[name] = function, wanted
+        return function
+
+    return register
+
+
+# ---- calls of the tool
+
+
+def ran(command, stdin=b"", cwd=ROOT):
+    """Status, output and errors of a command."""
+    done = subprocess.run([str(word) for word in command], input=stdin, capture_output=True, cwd=cwd)
+    return done.returncode, done.stdout.decode(), done.stderr.decode()
+
+
+def called(*arguments, stdin=b"", program=None):
+    """Status, output and errors of a call of the tool, in a child of this process, which need not start anew."""
+    with tempfile.TemporaryFile() as given, tempfile.TemporaryFile() as output, tempfile.TemporaryFile() as errors:
+        given.write(stdin)
+        given.seek(0)
+        sys.stdout.flush()
+        child = os.fork()
+        if child == 0:
+            for number, file in enumerate((given, output, errors)):
+                os.dup2(file.fileno(), number)
+            os._exit(child_status([str(word) for word in arguments], program))
+        status = os.waitstatus_to_exitcode(os.waitpid(child, 0)[1])
+        output.seek(0)
+        errors.seek(0)
+        return status, output.read().decode(), errors.read().decode()
+
+
+def child_status(arguments, program):
+    try:
+        if program is not None:
+            asking.PLACES = (program,)
+        return commands.main(arguments)
+    except SystemExit as end:
+        return end.code
+    except BaseException as trouble:
+        sys.stderr.write(f"{type(trouble).__name__}: {trouble}\n")
+        return 99
+    finally:
+        sys.stderr.flush()
+
+
+def tells_nothing(output):
+    return not any(answer in output for answer in ANSWERS)
+
+
+# ---- what the second program says of a text
+
+
+def record_name(job, number):
+    """An article or step by its name, and by its number where that is not enough."""
+    name, plain = job.records[number].name.decode(), f"{job.kind.record} {number}"
+    alone = sum(record.name == job.records[number].name for record in job.records) == 1
+    return plain if not name else name if alone else f"{name} ({plain})"
+
+
+@functools.cache
+def second_output(file):
+    """What the second program prints of a choice file."""
+    return reader.outcome(rules.offer, file)
+
+
+def second_choice(job):
+    """The selection and the set aside, or None."""
+    found = second_output(kitchen.written(job))
+    if found == "refused 14 at 0":
+        return None
+    return [{int(word) for word in line.split()[1:]} for line in found.splitlines()]
+
+
+@functools.cache
+def fewest_of(file):
+    return rules.fewest(reader.read(file))
+
+
+def second_count(job):
+    """The fewest rounds, or None."""
+    return fewest_of(kitchen.written(job))
+
+
+def rows(output):
+    """The indented lines of an answer, in two columns."""
+    return [tuple(re.split(" {2,}", line.strip(), maxsplit=1)) for line in output.splitlines() if line.startswith("  ")]
+
+
+def article_rows(text, articles):
+    order = text.job.sets[0]
+    found = []
+    for number in sorted(articles):
+        wishes = [text.names[wish].decode() for wish in sorted(text.job.records[number].sets[0] & order)]
+        found.append((record_name(text.job, number), "; ".join(wishes) or "(no wish of the order)"))
+    return found
+
+
+def told_as_second(text, output, status, label):
+    """What is told of a text, and the status, are those of the second program's answer."""
+    if text.job.kind is kitchen.CHOICE:
+        return choice_as_second(text, output, status, label)
+    fewest, found = second_count(text.job), rows(output)
+    if fewest is None:
+        return check(status == 3 and output.startswith("No such plan exists: "), f"{label}: no plan\n{output}")
+    if fewest == 0:
+        return equal((status, output), (0, "The goal holds at the start, so the fitting takes no round.\n"), label)
+    named = {record_name(text.job, number): number for number in range(len(text.job.records))}
+    rounds = [{named.get(name) for name in line.split("; ")} for _, line in found]
+    good = all(None not in steps for steps in rounds) and rules.is_plan(reader.read(kitchen.written(text.job)), rounds)
+    word = "round" if fewest == 1 else "rounds"
+    check(good and status == 0, f"{label}: a plan\n{output}")
+    equal(output.splitlines()[0], f"A plan of {fewest} {word}; no plan has fewer:", label)
+    equal([name for name, _ in found], [f"round {number}" for number in range(1, fewest + 1)], label)
+
+
+def choice_as_second(text, output, status, label):
+    answer, order = second_choice(text.job), len(text.job.sets[0])
+    if answer is None:
+        return check(status == 3 and output.startswith("No such kitchen exists: "), f"{label}: no kitchen\n{output}")
+    chosen, aside = answer
+    equal((status, rows(output)), (0, article_rows(text, chosen)), label)
+    check(("Set aside at once: " in output) == bool(aside), f"{label}: the set aside\n{output}")
+    for number in aside:
+        check(record_name(text.job, number) in output.split("Set aside at once: ")[-1], f"{label}: {number} aside\n{output}")
+    covers = f"A kitchen of {len(chosen)} article{'s' * (len(chosen) > 1)} covers the order of {order} wish{'es' * (order > 1)}"
+    check(output.startswith(covers if chosen else "The order has no wish, so"), f"{label}: the first line\n{output}")
+
+
+# ---- drawn jobs
+
+
+def renamed(draw, job):
+    """The job with names that print: some alone, some twice, some none."""
+    names = [draw.choice([b"", b"a", b"b", b"n" * 32] + [b"Unit %d" % number] * 6) for number in range(len(job.records))]
+    return job._replace(records=[record._replace(name=name) for record, name in zip(job.records, names)])
+
+
+def ours_of(job):
+    """A job of reference/ as the module has it."""
+    return kitchen.read(reader.written(job))
+
+
+def text_of(job):
+    text = stated(job_text(job).encode())
+    equal(text.job, job, "a job, written as a text and read")
+    return text
+
+
+def drawn_choice(draw, articles, wishes):
+    n, w = draw.randrange(articles + 1), draw.randrange(wishes + 1)
+    wish, clash = draw.choice([0.15, 0.3, 0.5]), draw.choice([0.1, 0.4, 0.7])
+    records = [
+        kitchen.article(draws.some(draw, w, wish), draws.some(draw, number, clash)) for number in range(n)
+    ]
+    return renamed(draw, kitchen.choice(w, draws.some(draw, w, draw.choice([0.5, 0.8, 1])), records))
+
+
+def tight_choice(draw, articles, wishes):
+    """Each article carries a wish or two, all wishes are ordered, and many articles clash: several wishes stand in conflict."""
+    n, w = draw.randrange(2, articles + 1), draw.randrange(2, wishes + 1)
+    clash = draw.choice([0.3, 0.5, 0.7])
+    records = []
+    for number in range(n):
+        carried = {number % w, draw.choice([number % w, draw.randrange(w)])}
+        others = {other for other in range(number) if other % w != number % w and draw.random() < clash}
+        records.append(kitchen.article(carried, others))
+    return renamed(draw, kitchen.choice(w, range(w), records))
+
+
+def linked_choice(draw, wishes):
+    """Wishes in a row: the first and the last are carried by one article, those between by two, and each article excludes
+    one of the next wish. So no wish can be left out of the conflict. A further wish or article may stand by."""
+    carried = [0] + [wish for wish in range(1, wishes - 1) for _ in range(2)] + [wishes - 1]
+    pairs = [(low, low + 1) for low in range(0, len(carried), 2)]
+    free = draw.randrange(2)
+    place = draw.sample(range(len(carried) + free), len(carried))
+    records = [kitchen.article({wishes} if draw.random() < 0.5 else ()) for _ in range(len(carried) + free)]
+    for number, wish in enumerate(carried):
+        records[place[number]] = kitchen.article({wish})
+    for low, high in pairs:
+        records[place[low]].sets[1].add(place[high])
+    return renamed(draw, kitchen.choice(wishes + 1, range(wishes + draw.randrange(2)), records))
+
+
+def drawn_fitting(draw, steps, facts, horizon):
+    n, f = draw.randrange(steps + 1), draw.randrange(1, facts + 1)
+    chances = draw.choice([(0.3, 0.4, 0.3), (0.3, 0.2, 0.1), (0.2, 0.2, 0.3), (0.4, 0.3, 0)])
+    records = [kitchen.step(*(draws.some(draw, f, chance) for chance in chances)) for _ in range(n)]
+    start, goal = draws.some(draw, f, 0.2), draws.some(draw, f, draw.choice([0.3, 0.6]))
+    return renamed(draw, kitchen.fitting(f, draw.randrange(horizon + 1), start, goal, records))
+
+
+def chain(draw, length, horizon):
+    """Steps that need each other in turn, so that a plan takes many rounds."""
+    records = [kitchen.step({number}, {number + 1}, draws.some(draw, number, 0.2)) for number in range(length)]
+    return renamed(draw, kitchen.fitting(length + 1, horizon, {0}, {length}, records))
+
+
+# ---- the README's command
+
+
+def readme_command():
+    """The README's first command, and its part behind the build."""
+    blocks = re.findall(r"^```\n(.*?)^```$", (ROOT / "README.md").read_text(), re.M | re.S)
+    found = [block.strip() for block in blocks if block.startswith("rt check kitchen")]
+    check(len(found) == 1, f"README.md has the command once: {found}")
+    build, _, rest = (found or [""])[0].partition(" && ")
+    check(build == "rt check kitchen" and rest, f"README.md builds kitchen, and then runs something: {found}")
+    return rest
+
+
+def snapshot():
+    """The files of the tree and of target/, with their sizes and times."""
+    found = {}
+    for base, folders, names in os.walk(ROOT):
+        folders[:] = [name for name in folders if name != ".git"]
+        for name in names:
+            state = os.lstat(os.path.join(base, name))
+            found[os.path.join(base, name)] = state.st_size, state.st_mtime_ns
+    return found
+
+
+def parts(output, paths):
+    """What is told of each of several texts, each below its path."""
+    found, rest = [], output
+    for path, following in zip(paths, [*paths[1:], None]):
+        check(rest.startswith(f"{path}\n"), f"{path} stands above its answer:\n{rest}")
+        rest = rest.removeprefix(f"{path}\n")
+        part, mark, rest = rest.partition(f"\n\n{following}\n") if following else (rest, "", "")
+        found.append(part + "\n" if mark else part)
+        rest = f"{following}\n{rest}"
+    return found
+
+
+@section("readme", "texts shown", "texts shown together", "pairs at once", "files kept")
+def readme(tally, folder):
+    before, rest = snapshot(), readme_command()
+    status, output, errors = ran(["sh", "-c", rest])
+    paths = rest.split()[1:]
+    check(status == 0 and not errors and len(paths) == 2, f"{rest}: status {status}, {errors}")
+    for path, part in zip(paths, parts(output, paths)):
+        told_as_second(stated((ROOT / path).read_bytes()), part, 0, f"{rest}, {path}")
+        tally["texts of the command"] += 1
+    for path in SAMPLES:
+        status, output, _ = ran(["./show", path.relative_to(ROOT)])
+        told_as_second(stated(path.read_bytes()), output, status, f"./show {path.name}")
+        tally["texts shown"] += 1
+    paths = [str(path.relative_to(ROOT)) for path in SAMPLES]
+    status, output, _ = ran(["./show", *paths])
+    equal(status, 3, "./show of all samples, of which one has no kitchen")
+    for path, part in zip(paths, parts(output, paths)):
+        text = stated((ROOT / path).read_bytes())
+        told_as_second(text, part, 3 if "No such" in part else 0, f"./show of all, {path}")
+        tally["texts shown together"] += 1
+    same_name(tally, folder)
+    after = snapshot()
+    changed = sorted(path for path in before.keys() | after.keys() if before.get(path) != after.get(path))
+    equal(changed, [], "nothing in the tree was written")
+    tally["files kept"] += len(after)
+
+
+def same_name(tally, folder):
+    """Two texts of one name, in different folders, at the same time."""
+    paths = [folder / part / "job.txt" for part in ("with", "without")]
+    for path, sample in zip(paths, ("kitchen", "impossible")):
+        path.parent.mkdir()
+        shutil.copy(ROOT / "jobs" / f"{sample}.txt", path)
+    runs = []
+    for _ in range(20):
+        for path, status in zip(paths, (0, 3)):
+            run = subprocess.Popen([ROOT / "show", path], stdout=subprocess.PIPE, stderr=subprocess.PIPE, text=True)
+            runs.append((run, path, status))
+    told = Counter()
+    for run, path, status in runs:
+        output, errors = run.communicate()
+        good = output.startswith("No such kitchen exists: " if status else "A kitchen of 7 articles")
+        check(run.returncode == status and good and not errors, f"{path}: {run.returncode}\n{output}{errors}")
+        told[output] += 1
+    equal(sorted(told.values()), [20, 20], "each of two texts has one answer")
+    tally["pairs at once"] += 20
+
+
+# ---- statuses
+
+FAULTY = b"choice\nwishes: a\norder: b\narticle X\n wishes: a\n"
+SHORT = (ROOT / "jobs" / "fitting.txt").read_bytes().replace(b"horizon: 10", b"horizon: 7")
+
+
+def sample(name):
+    return ROOT / "jobs" / f"{name}.txt"
+
+
+@section("statuses", "asked", "misused", "lines of json", "orders", "from standard input", "advised")
+def statuses(tally, folder):
+    faulty, missing, short = folder / "faulty.txt", folder / "missing.txt", folder / "short.txt"
+    faulty.write_bytes(FAULTY)
+    short.write_bytes(SHORT)
+    ask_statuses(tally, faulty, missing, short)
+    misuse(tally)
+    from_standard_input(tally)
+    advise_statuses(tally, faulty, missing, short)
+    json_lines(tally, faulty, missing, short)
+    orders(tally, folder)
+
+
+def ask_statuses(tally, faulty, missing, short):
+    with_one, plan, none, folder = sample("kitchen"), sample("fitting"), sample("impossible"), ROOT / "jobs"
+    cases = [
+        ([with_one], 0), ([plan], 0), ([none], 3), ([short], 3), ([faulty], 1), ([missing], 1), ([folder], 1),
+        ([with_one, plan], 0), ([with_one, none], 3), ([none, with_one], 3), ([with_one, short, plan], 3),
+        ([with_one, faulty], 1), ([none, missing, with_one], 1), ([faulty, none, plan], 1), ([missing, faulty], 1),
+    ]  # fmt: skip
+    told = {with_one: "A kitchen of 7 articles", plan: "A plan of 8 rounds", none: "No such kitchen", short: "No such plan"}
+    for number, (paths, expected) in enumerate(cases):
+        status, output, errors = ran([TOOL, "ask", *paths]) if number % 2 else called("ask", *paths)
+        label = f"ask {' '.join(path.name for path in paths)}"
+        check(status == expected, f"{label}: status {status}\n{output}{errors}")
+        for path, answer in told.items():
+            equal(output.count(answer), paths.count(path), f"{label}: the answer of {path.name}\n{output}")
+        for path in {faulty, missing, folder} & set(paths):
+            check(str(path) in errors, f"{label}: what is wrong with {path.name}\n{errors}")
+        tally["asked"] += 1
+
+
+def misuse(tally):
+    one, plan = sample("kitchen"), sample("fitting")
+    for arguments in (
+        ["ask"], ["bogus"], ["ask", "--bogus", one], ["ask", "--order", "no hood", plan], ["ask", "--next", "1", plan],
+        ["ask", "--order", "no hood", one, plan], ["ask", one, plan, "--next", "2"], ["ask", "--next", "0", one],
+        ["ask", "--next", "x", one], ["ask", "--next", "-1", one], ["ask", "-", "-"], ["ask", one, "--order"],
+        ["advise"], ["advise", one, plan], ["advise", "--order", "no hood", plan], ["advise", "--json", one], ["ask", "--nex", "1", one],
+    ):  # fmt: skip
+        status, output, errors = called(*arguments)
+        equal((status, output), (2, ""), f"{arguments}: misuse, {errors}")
+        check("tools/job" in errors, f"{arguments}: misuse is said\n{errors}")
+        tally["misused"] += 1
+    equal(ran([TOOL, "ask"])[:2], (2, ""), "misuse through the command line")
+    equal(called()[0], 0, "no argument at all is a call for help")
+
+
+def from_standard_input(tally):
+    for path in SAMPLES:
+        direct, piped = called("ask", path), called("ask", "-", stdin=path.read_bytes())
+        equal(piped[0], direct[0], f"the status of {path.name} from standard input")
+        equal(piped[1].replace("advise -", f"advise {path}"), direct[1], f"{path.name} from standard input")
+        tally["from standard input"] += 1
+    status, output, _ = ran([TOOL, "ask", "-", sample("A")], stdin=sample("impossible").read_bytes())
+    check(status == 3 and output.startswith("standard input\nNo such") and "A kitchen of 1" in output, output)
+    status, output, errors = called("ask", "-")
+    check(status == 1 and not output and "standard input" in errors, f"nothing on standard input: {errors}")
+
+
+def advise_statuses(tally, faulty, missing, short):
+    for path, status, start in (
+        (sample("kitchen"), 0, "A kitchen of 7 articles"), (sample("fitting"), 0, "A plan of 8 rounds"),
+        (sample("impossible"), 3, "No such kitchen"), (short, 3, "No such plan"), (faulty, 1, ""), (missing, 1, ""),
+    ):  # fmt: skip
+        found, output, errors = called("advise", path)
+        check(found == status and output.startswith(start), f"advise {path.name}: {found}\n{output}{errors}")
+        check(bool(output) == (status != 1), f"advise {path.name} tells something exactly if it can\n{output}")
+        check(status != 1 or str(path) in errors, f"advise {path.name}: what is wrong\n{errors}")
+        tally["advised"] += 1
+    _, output, _ = ran([TOOL, "advise", short])
+    check("A horizon of 8 rounds would do, and none below it." in output, output)
+
+
+def json_lines(tally, faulty, missing, short):
+    paths = [*SAMPLES, short, faulty, missing]
+    status, output, errors = ran([TOOL, "ask", "--json", *paths])
+    check(status == 1 and str(missing) in errors, f"json of all: {status}, {errors}")
+    lines = output.splitlines()
+    equal(len(lines), len(paths), "a line of JSON for each text")
+    for path, line in zip(paths, lines):
+        found = json.loads(line)
+        equal(found.pop("text"), str(path), "the text of a line of JSON")
+        json_as_second(path, found)
+        tally["lines of json"] += 1
+    for path, status in zip(paths, (0, 0, 0, 3, 0, 3, 1, 1)):
+        equal(called("ask", "--json", path)[:2], (status, lines[paths.index(path)] + "\n"), f"json of {path.name}")
+    status, output, _ = called("ask", "--json", "--next", "1", sample("A"))
+    further = json.loads(output)["further"]
+    equal((status, [[article["number"] for article in other] for other in further]), (0, [[0, 2]]), "further in JSON")
+
+
+def json_as_second(path, found):
+    if path.name in ("faulty.txt", "missing.txt"):
+        return check(found["answer"] == "error" and str(path) in found["message"], f"json of {path.name}: {found}")
+    text = stated(path.read_bytes())
+    names = [record.name.decode() or None for record in text.job.records]
+    data = lambda numbers: [{"number": number, "name": names[number]} for number in sorted(numbers)]
+    if text.job.kind is kitchen.FITTING:
+        fewest = second_count(text.job)
+        if fewest is None:
+            return equal(found, {"kind": "fitting", "answer": "no such plan", "horizon": text.job.horizon}, path.name)
+        rounds = [{step["number"] for step in steps} for steps in found["rounds"]]
+        expected = {"kind": "fitting", "answer": "plan", "rounds": [data(steps) for steps in rounds]}
+        good = len(rounds) == fewest and rules.is_plan(reader.read(kitchen.written(text.job)), rounds)
+        return check(good and found == expected, f"json of {path.name}: {found}")
+    answer = second_choice(text.job)
+    if answer is None:
+        return equal(found, {"kind": "choice", "answer": "no such kitchen"}, path.name)
+    articles = data(answer[0])
+    for article in articles:
+        wishes = text.job.records[article["number"]].sets[0] & text.job.sets[0]
+        article["wishes"] = [text.names[wish].decode() for wish in sorted(wishes)]
+    expected = {"kind": "choice", "answer": "kitchen", "articles": articles, "set aside": data(answer[1])}
+    equal(found, expected, f"json of {path.name}")
+
+
+def orders(tally, folder):
+    """An order in place of the text's own is told as a text that has it."""
+    draw, text = random.Random(1), sample("kitchen").read_text()
+    head, rest = re.split(r"(?<=\n)order:", text)[0], re.split(r"\n\n", text, maxsplit=1)[1]
+    names = [name.decode() for name in stated(text.encode()).names]
+    path = folder / "ordered.txt"
+    for _ in range(24):
+        order = ", ".join(draw.sample(names, draw.randrange(6)))
+        path.write_text(f"{head}order: {order}\n\n{rest}")
+        direct, given = called("ask", path), called("ask", "--order", order, sample("kitchen"))
+        equal(given[0], direct[0], f"the status with --order {order!r}")
+        expected = direct[1].replace(f"advise {path}`", f"advise {sample('kitchen')} --order {shlex.quote(order)}`")
+        equal(given[1], expected, f"--order {order!r}")
+        equal(called("advise", "--order", order, sample("kitchen")), called("advise", path), f"advise --order {order!r}")
+        tally["orders without a kitchen" if given[0] else "orders with a kitchen"] += 1
+        tally["orders"] += 1
+    status, output, errors = called("ask", "--order", "bogus", sample("kitchen"))
+    check(status == 1 and not output and "--order" in errors and "bogus" in errors, f"an unknown wish: {errors}")
+
+
+# ---- a stand-in for kitchen
+
+
+def script(path, *lines):
+    """A program in place of kitchen. It is put there at once, so that no process can find it half written."""
+    new = path.with_name("new")
+    new.write_text("\n".join(["#!/bin/sh", *lines, ""]))
+    new.chmod(0o755)
+    new.replace(path)
+
+
+def says(path, output):
+    """A stand-in that prints this, whatever it is asked."""
+    path.with_name("output").write_bytes(output)
+    script(path, f'exec cat "{path.with_name("output")}"')
+
+
+def right_output(file):
+    return subprocess.run([KITCHEN], input=file, capture_output=True).stdout
+
+
+def numbered(rounds):
+    lines = [f"{number}:" + "".join(f" {step}" for step in steps) for number, steps in enumerate(rounds, 1)]
+    return "\n".join([f"rounds {len(rounds)}", *lines, ""]).encode()
+
+
+def lies_of_any(right):
+    """Outputs that are no answer to anything, or to no job of this kind."""
+    yield from (f"refused {number} at 0\n".encode() for number in (0, 1, 2, 3, 8, 9, 10, 13, 16, 17))
+    yield from (b"", b"\n", b"\0", b"\xff\xfe\xfd", b"junk\n", b"x" * 100_000, b"chosen\n", b"rounds\n", b"none\n")
+    yield from (right.replace(b"\n", b"\r\n"), right + right, right + b"\n", b"\n" + right, b" " + right, right.upper())
+    yield from (right.replace(b"\n", b" \n", 1), right.replace(b"\n", b"\0\n"), right.replace(b"\n", b"", 1))
+    yield b"refused 14 at 1\n"
+    yield b"refused 15 at 00\n"
+
+
+def choice_lies(right):
+    """Of a selection: articles too few, too many, not there, not in order; another set aside."""
+    chosen, aside = (line.partition(b" ")[2].split() for line in right.splitlines())
+    line = lambda word, numbers: b" ".join([word, *numbers]) + b"\n"
+    for number in chosen:
+        yield line(b"chosen", [other for other in chosen if other != number]) + line(b"aside", aside)
+    for number in (b"1", b"7", b"17", b"19", b"63", b"64", b"99", b"-1", b"00", b"x"):
+        yield line(b"chosen", sorted({*chosen, number}, key=lambda word: (len(word), word))) + line(b"aside", aside)
+    yield line(b"chosen", chosen[::-1] + [b"98"]) + line(b"aside", aside)
+    yield line(b"chosen", chosen + chosen[-1:]) + line(b"aside", aside)
+    for other in ([*chosen[:1], *aside], sorted(chosen), aside[:-1] if aside else [b"0"], [*aside, b"18"], [*aside, b"70"]):
+        yield line(b"chosen", chosen) + line(b"aside", other)
+    yield line(b"aside", aside) + line(b"chosen", chosen)
+    yield b"refused 14 at 0\n"
+    yield b"refused 15 at 0\n"
+
+
+def plan_lies(right):
+    """Of a plan: an empty round, a round too many, too few, steps that are not there, another count."""
+    rounds = [line.partition(b":")[2].decode().split() for line in right.splitlines()[1:]]
+    yield from (numbered(rounds[:at] + [[]] + rounds[at:]) for at in range(len(rounds) + 1))
+    yield from (numbered(rounds[:at] + [[], []] + rounds[at:]) for at in (0, len(rounds)))
+    yield from (numbered(rounds[:at] + rounds[at + 1 :]) for at in range(len(rounds)))
+    yield numbered(rounds[:-1] + [rounds[-1][:1], rounds[-1][1:]])  # the last round in two
+    yield numbered(rounds + rounds[-1:])
+    yield numbered(rounds[:-1] + [[*rounds[-1], "31"]])
+    yield numbered([*rounds[:-1], rounds[-1][::-1]])
+    yield numbered(rounds[::-1])
+    yield from (right.replace(b"rounds ", b"rounds 0"), right.replace(b"\n1:", b"\n01:"), right.replace(b"\n2:", b"\n1:"))
+    yield re.sub(rb"rounds \d+", b"rounds 1", right)
+    yield b"refused 15 at 0\n"
+    yield b"refused 14 at 0\n"
+
+
+def no_answer(tally, path, stand_in, label, commands=("ask", "json", "advise")):
+    """Status 1, and no answer is told."""
+    for command in commands:
+        arguments = ["ask", "--json"] if command == "json" else [command]
+        status, output, errors = called(*arguments, path, program=stand_in)
+        check(status == 1 and tells_nothing(output) and errors, f"{label}: {command} {path.name}: {status}\n{output}{errors}")
+        if command == "json":
+            check([json.loads(line)["answer"] for line in output.splitlines()] == ["error"], f"{label}: {output}")
+        else:
+            equal(output, "", f"{label}: {command} {path.name} tells something")
+        tally["lies asked" if command != "advise" else "lies advised"] += 1
+
+
+def copied_tree(folder):
+    """The tool in a tree of its own, without kitchen."""
+    tree = folder / "tree"
+    for name in ("tools", "host", "jobs"):
+        shutil.copytree(ROOT / name, tree / name)
+    shutil.copy(ROOT / "show", tree)
+    (tree / "target" / "bin").mkdir(parents=True)
+    return tree
+
+
+@section("stand_in", "lies asked", "lies advised", "cuts", "lies in a copied tree", "ends", "later lies", "honest")
+def stand_in(tally, folder):
+    tree = copied_tree(folder)
+    path, files = tree / "target" / "bin" / "kitchen", {text: kitchen.written(stated(text.read_bytes()).job) for text in SAMPLES}
+    script(path, f'exec "{KITCHEN}"')
+    honest(tally, tree, path)
+    for text, file in files.items():
+        right = right_output(file)
+        lies(tally, tree, path, text, right, [right_output(other) for other in files.values() if other != file])
+        cuts(tally, path, text, right)
+        ends(tally, path, text, right)
+    later_lies(tally, folder, path, files)
+    unusable_programs(tally, tree, path)
+
+
+def honest(tally, tree, path):
+    """What hands the bytes on to kitchen itself gives the right answers, so that all else fails for its own reason."""
+    for text in SAMPLES:
+        for command in ("ask", "advise"):
+            equal(called(command, text, program=path), called(command, text), f"honest: {command} {text.name}")
+        equal(ran(["./show", f"jobs/{text.name}"], cwd=tree), ran(["./show", f"jobs/{text.name}"]), f"honest: {text.name}")
+        tally["honest"] += 1
+
+
+def lies(tally, tree, path, text, right, others):
+    own = plan_lies(right) if right.startswith(b"rounds") else choice_lies(right) if right.startswith(b"chosen") else []
+    found = [output for output in dict.fromkeys([*own, *lies_of_any(right), *others]) if output != right]
+    for number, output in enumerate(found):
+        says(path, output)
+        label = f"{output[:120]!r}"
+        no_answer(tally, text, path, label, ("ask", "json", "advise") if number % 4 == 0 else ("ask", "advise"))
+        if number % 16 == 0:
+            status, output, errors = ran(["./show", f"jobs/{text.name}"], cwd=tree)
+            check((status, output) == (1, "") and errors, f"{label} in a copied tree: {status}\n{output}{errors}")
+            tally["lies in a copied tree"] += 1
+
+
+def cuts(tally, path, text, right):
+    """A write that failed on its way, at every byte."""
+    for size in range(len(right)):
+        says(path, right[:size])
+        no_answer(tally, text, path, f"cut to {size} bytes", ("ask",) if size % 4 else ("ask", "advise"))
+        tally["cuts"] += 1
+
+
+def ends(tally, path, text, right):
+    """The right output, and another end than that of kitchen."""
+    says(path, right)
+    show = ["cat >/dev/null", f'cat "{path.with_name("output")}"']
+    for label, lines in {
+        "status 1": [*show, "exit 1"], "status 14": [*show, "exit 14"], "killed": [*show, "kill -9 $$"],
+        "ended": [*show, "kill -15 $$"], "noise": [*show, "echo trouble >&2"], "all on standard error": [show[0], show[1] + " >&2"],
+        "unread": ["exit 0"], "unread and failed": ["exit 3"],
+    }.items():  # fmt: skip
+        script(path, *lines)
+        no_answer(tally, text, path, label)
+        tally["ends"] += 1
+
+
+def later_lies(tally, folder, path, files):
+    """A stand-in that is right about the text, and not about what is asked to give advice."""
+    short = folder / "short.txt"
+    short.write_bytes(SHORT)
+    files = files | {short: kitchen.written(stated(SHORT).job)}
+    asks_more = [text for text in files if text.stem in ("A", "kitchen", "impossible", "short")]
+    for text in asks_more:
+        path.with_name("file").write_bytes(files[text])
+        right = right_output(files[text])
+        for output in {b"", right[:-1], b"refused 14 at 0\n", b"refused 15 at 0\n", b"refused 1 at 0\n", b"chosen\naside\n", right}:
+            path.with_name("output").write_bytes(output)
+            keep, file, lie = (f'"{path.with_name(name)}"' for name in ("asked", "file", "output"))
+            script(path, f"cat >{keep}", f'if cmp -s {keep} {file}; then "{KITCHEN}" <{keep}; else cat {lie}; fi')
+            no_answer(tally, text, path, f"{output!r} to what follows", ("advise",))
+            tally["later lies"] += 1
+
+
+def unusable_programs(tally, tree, path):
+    path.unlink()
+    for label, make in {
+        "missing": lambda: None,
+        "not executable": lambda: path.write_bytes(KITCHEN.read_bytes()),
+        "no program": lambda: (path.write_bytes(b"\x7fELF junk"), path.chmod(0o755)),
+        "a directory": lambda: (path.unlink(), path.mkdir()),
+    }.items():
+        make()
+        for text in SAMPLES:
+            no_answer(tally, text, path, label)
+        status, output, errors = ran(["./show", "jobs/kitchen.txt"], cwd=tree)
+        check((status, output) == (1, "") and str(path) in errors, f"{label}: {status}\n{output}{errors}")
+        tally["ends"] += 1
+
+
+# ---- drawn jobs beside the second program
+
+
+@section("drawn", "kitchens", "no kitchens", "no rounds", "plans", "long plans", "no plans", "set aside", "through the command line")
+def drawn(tally, folder):
+    draw = random.Random(20261116)
+    jobs = [drawn_choice(draw, 8, 7) for _ in range(220)] + [tight_choice(draw, 8, 6) for _ in range(80)]
+    jobs += [drawn_fitting(draw, 5, 6, 6) for _ in range(260)] + [drawn_fitting(draw, 7, 4, 4) for _ in range(40)]
+    jobs += [chain(draw, draw.randrange(1, 9), draw.randrange(1, 10)) for _ in range(40)]
+    jobs += [ours_of(draws.walk(draw, draw.randrange(2, 9), draw.randrange(17))) for _ in range(40)]
+    for number, job in enumerate(jobs):
+        job = renamed(draw, job)
+        text = text_of(job)
+        if number % 8:
+            answer = asking.asked(text.job)
+            lines = telling.told(text, answer) + (telling.aside_told(text, answer.aside) if hasattr(answer, "aside") else [])
+            status, output = commands.status_of(answer), "\n".join(lines) + "\n"
+        else:
+            path = folder / "drawn.txt"
+            path.write_text(job_text(job))
+            status, output, _ = ran([TOOL, "ask", path]) if number % 32 == 0 else called("ask", path)
+            tally["through the command line"] += 1
+        told_as_second(text, output, status, f"drawn {number}, {kitchen.written(job).hex()}")
+        tally[outcome(output)] += 1
+        tally["long plans"] += outcome(output) == "plans" and len(rows(output)) > 3
+        tally["set aside"] += "Set aside at once" in output
+
+
+def outcome(output):
+    kinds = {"A kitchen of": "kitchens", "No such kitchen": "no kitchens", "A plan of": "plans", "No such plan": "no plans"}
+    kinds |= {"The goal holds at the start": "no rounds", "The order has no wish": "empty orders"}
+    return next((name for start, name in kinds.items() if output.startswith(start)), "nothing told")
+
+
+# ---- advice, beside all sets of articles and all rounds
+
+
+def clash_free(job):
+    """Every set of articles in which no two clash, with the wishes that they carry."""
+    found, articles = [], range(len(job.records))
+    for number in range(2 ** len(job.records)):
+        chosen = {article for article in articles if number >> article & 1}
+        if not any(low in job.records[high].sets[1] for low, high in combinations(sorted(chosen), 2)):
+            found.append((chosen, set().union(*(job.records[article].sets[0] for article in chosen))))
+    return found
+
+
+def covering(sets, order):
+    return [chosen for chosen, wishes in sets if order <= wishes]
+
+
+def spoken(names):
+    """Names in a sentence."""
+    if any("," in name or " and " in name for name in names) or len(names) < 2:
+        return "; ".join(names)
+    return ", ".join(names[:-1]) + " and " + names[-1]
+
+
+@section(
+    "advise", "every", "none", "some", "parts of 1", "parts of 2", "parts of 3", "parts of more", "not enough", "uncarried",
+    "horizons that would do", "horizons that none would", "ungiven", "goals that are given in vain", "command lines"
+)  # fmt: skip
+def advise(tally, folder):
+    draw = random.Random(7)
+    jobs = [drawn_choice(draw, 7, 6) for _ in range(150)] + [tight_choice(draw, 7, 6) for _ in range(130)]
+    jobs += [linked_choice(draw, draw.choice([2, 3, 3, 4, 4])) for _ in range(40)]
+    for number, job in enumerate(jobs):
+        text, sets = text_of(job), clash_free(job)
+        label = f"advice {number}, {kitchen.written(job).hex()}"
+        answer = asking.asked(job)
+        found = advising.advice(job, answer)
+        kitchens = covering(sets, job.sets[0])
+        check((answer is kitchen.NoSelection) == (not kitchens), f"{label}: whether there is a kitchen")
+        if kitchens:
+            expected = every_none_some(tally, job, kitchens, found, label)
+        else:
+            expected = why_not(tally, text, sets, found, label)
+        as_lines(tally, folder, text, answer, expected, number, label)
+    for number in range(220):
+        job = drawn_fitting(draw, 5, 5, 3) if number % 3 else chain(draw, draw.randrange(1, 18), draw.randrange(17))
+        text, label = text_of(job), f"advice on fitting {number}, {kitchen.written(job).hex()}"
+        answer = asking.asked(job)
+        expected = [] if answer is not kitchen.NoPlan else which_horizon(tally, text, advising.advice(job, answer), label)
+        as_lines(tally, folder, text, answer, expected, number, label)
+
+
+def every_none_some(tally, job, kitchens, found, label):
+    every, some = set.intersection(*kitchens), set.union(*kitchens)
+    none = set(range(len(job.records))) - some
+    equal(found, advising.Articles(every, none, some - every), label)
+    lists = {"every": every, "none": none, "some": some - every}
+    for word, articles in lists.items():
+        tally[word] += bool(articles)
+    names = [spoken([record_name(job, number) for number in sorted(articles)]) or "no article" for articles in lists.values()]
+    return list(zip(("In every kitchen for this order:", "In none:", "In some:"), names))
+
+
+def why_not(tally, text, sets, found, label):
+    job, order = text.job, text.job.sets[0]
+    carried = set().union(*(record.sets[0] for record in job.records))
+    equal(found.uncarried, order - carried, f"{label}: wishes that no article carries")
+    check(found.part <= order and not covering(sets, found.part), f"{label}: the part {found.part} cannot be had")
+    equal([rest.wish for rest in found.rests], sorted(found.part), f"{label}: each wish of the part")
+    expected, quoted = [], lambda wish: f'"{text.names[wish].decode()}"'
+    for rest in found.rests:
+        check(covering(sets, found.part - {rest.wish}), f"{label}: the part without {rest.wish} can be had")
+        check(rest.kitchen.articles in covering(sets, found.part - {rest.wish}), f"{label}: a kitchen without {rest.wish}")
+        equal(rest.enough, bool(covering(sets, order - {rest.wish})), f"{label}: the order without {rest.wish}")
+        still = "" if rest.enough else "; the rest of the whole order cannot be had, either"
+        names = spoken([record_name(job, number) for number in sorted(rest.kitchen.articles)])
+        expected.append((f"Without {quoted(rest.wish)}{still}:", names))
+        tally["not enough"] += not rest.enough
+    tally[f"parts of {len(found.part) if len(found.part) < 4 else 'more'}"] += 1
+    tally["uncarried"] += bool(found.uncarried)
+    part = spoken([quoted(wish) for wish in sorted(found.part)])
+    head = [f"No article carries {quoted(wish)}." for wish in sorted(found.uncarried)]
+    if len(found.part) == 1:
+        return [*head, f"Already {part} alone cannot be had."]
+    together = "Each wish of these can be left out, and the others of them can be had:"
+    return [*head, f"These wishes cannot be had together: {part}.", together, *expected]
+
+
+def all_rounds(job, holds):
+    """Every set of steps that may be done together where this holds."""
+    found = [()]
+    for number, step in enumerate(job.records):
+        if step.sets[0] <= holds:
+            found += [(*others, number) for others in found if not any(disturb(step, job.records[u]) for u in others)]
+    return found
+
+
+def disturb(a, b):
+    return bool(a.sets[2] & (b.sets[0] | b.sets[1]) or b.sets[2] & (a.sets[0] | a.sets[1]))
+
+
+def fewest_rounds(job, most):
+    """The fewest rounds after which the goal can hold, 0 where there is no plan of so many."""
+    states, seen = {frozenset(job.sets[0])}, set()
+    for number in range(most + 1):
+        if any(job.sets[1] <= holds for holds in states):
+            return number
+        seen |= states
+        following = set()
+        for holds in states:
+            for steps in all_rounds(job, holds):
+                taken = set().union(*(job.records[step].sets[2] for step in steps))
+                following.add(frozenset((holds - taken).union(*(job.records[step].sets[1] for step in steps))))
+        states = following - seen
+    return 0
+
+
+def which_horizon(tally, text, found, label):
+    job, most = text.job, text.job.kind.horizon
+    ungiven = {fact for fact in job.sets[1] if fact not in job.sets[0] and not any(fact in r.sets[1] for r in job.records)}
+    rounds = fewest_rounds(job, most)
+    equal(found, advising.Horizon(ungiven, rounds), label)
+    check(rounds == 0 or rounds > job.horizon, f"{label}: a plan within the horizon")
+    tally["horizons that would do" if rounds else "horizons that none would"] += 1
+    tally["ungiven"] += bool(ungiven)
+    tally["goals that are given in vain"] += not ungiven and not rounds
+    lines = [f'Nothing gives "{text.names[fact].decode()}", and it does not hold at the start.' for fact in sorted(ungiven)]
+    word = "round" if rounds == 1 else "rounds"
+    would = f"A horizon of {rounds} {word} would do, and none below it."
+    return [*lines, would if rounds else f"No horizon would do, up to {most} rounds, the most that a job can have."]
+
+
+def as_lines(tally, folder, text, answer, expected, number, label):
+    """The advice stands behind the answer; by the command, too, now and then."""
+    answered = telling.told(text, answer)
+    if number % 6:
+        lines, status = advising.advised(text, answer), commands.status_of(answer)
+    else:
+        path = folder / "advised.txt"
+        path.write_text(job_text(text.job))
+        status, output, _ = ran([TOOL, "advise", path]) if number % 30 == 0 else called("advise", path)
+        lines = output.splitlines()
+        tally["command lines"] += 1
+    equal(lines[: len(answered)], answered, f"{label}: the answer comes first")
+    split = [rows(line)[0] if line.startswith("  ") else line for line in lines[len(answered) :]]
+    none = answer is kitchen.NoSelection or answer is kitchen.NoPlan
+    equal((status, split), (3 if none else 0, expected), f"{label}: in words")
+
+
+# ---- further kitchens
+
+
+def second_further(job, number):
+    """The second program's choices at rising floors, behind the first."""
+    state = reader.read(kitchen.written(job))
+    groups, goals, found, floor = rules.own_groups(state), [state.order] if state.order else [], [], 0
+    while len(found) <= number:
+        try:
+            chosen, aside = rules.chosen(state, groups, goals, floor)
+        except reader.Refused:
+            break
+        found.append(kitchen.Selection(chosen, aside))
+        floor = rules.number(chosen) + 1
+    return found[1:]
+
+
+def further_lines(text, following):
+    found = []
+    for number, other in enumerate(following, 1):
+        found.append(f"Further kitchen {number}, of {len(other.articles)} article{'s' * (len(other.articles) != 1)}:")
+        found += article_rows(text, other.articles)
+    return found or ["There is no further kitchen."]
+
+
+@section("next", "further kitchens", "fewer than asked for", "no further", "all 64", "command lines", "libraries that are not used")
+def next_kitchens(tally, folder):
+    draw = random.Random(3)
+    for number in range(200):
+        job = drawn_choice(draw, 7, 4)
+        text, first, wanted = text_of(job), asking.asked(job), draw.choice([1, 1, 2, 3, 5, 8])
+        label = f"{wanted} further, {kitchen.written(job).hex()}"
+        if first is kitchen.NoSelection:
+            continue
+        expected = second_further(job, wanted)
+        equal(asking.further(job, first, wanted), expected, label)
+        tally["further kitchens"] += len(expected)
+        tally["fewer than asked for"] += 0 < len(expected) < wanted
+        tally["no further"] += not expected
+        if number % 5 == 0:
+            path = folder / "next.txt"
+            path.write_text(job_text(job))
+            call = ["ask", "--next", wanted, path]
+            status, output, errors = ran([TOOL, *call]) if number % 25 == 0 else called(*call)
+            lines = telling.told(text, first) + telling.aside_told(text, first.aside)
+            equal(output.splitlines()[: len(lines)], lines, f"{label}: the first comes first")
+            split = [rows(line)[0] if line.startswith("  ") else line for line in output.splitlines()[len(lines) :]]
+            equal((status, split), (0, further_lines(text, expected)), f"{label}: in words, {errors}")
+            tally["command lines"] += 1
+    wide_next(tally)
+    none_at_all(tally)
+    unusable_libraries(tally, folder)
+
+
+def wide_next(tally):
+    """All 64 articles are needed, or all but the first: the numbers come to the last one that there is."""
+    for free, expected in ((0, []), (1, [kitchen.Selection(set(range(64)), set())])):
+        articles = [kitchen.article({number} - set(range(free))) for number in range(64)]
+        job = kitchen.choice(64, range(free, 64), articles)
+        equal(asking.further(job, asking.asked(job), 3), expected, f"64 articles, {free} of them free")
+        tally["all 64"] += 1
+
+
+def none_at_all(tally):
+    path = sample("impossible")
+    equal(called("ask", "--next", 2, path), called("ask", path), "no kitchen, and so no further one")
+    status, output, _ = called("ask", "--next", "3", sample("A"))
+    check(status == 0 and output.count("Further kitchen") == 2, f"two further kitchens of A: {output}")
+    status, output, _ = called("ask", "--next", "1", "--json", sample("A"), path)
+    lines = [json.loads(line) for line in output.splitlines()]
+    equal((status, [len(line.get("further", [])) for line in lines]), (3, [1, 0]), "further kitchens as JSON")
+
+
+def unusable_libraries(tally, folder):
+    """Without a library of this version nothing is told of a text; without --next all is."""
+    tree = copied_tree(folder)
+    shutil.copy(KITCHEN, tree / "target" / "bin")
+    path, module = tree / "target" / "lib" / "libkitchen.so", tree / "host" / "kitchen.py"
+    path.parent.mkdir()
+    call = ["tools/job", "ask", "--next", "1"]
+    for label, content, version, phrase in (
+        ("missing", None, kitchen.VERSION, "libkitchen.so is missing; build it with tools/library"),
+        ("empty", b"", kitchen.VERSION, f"{path} is no library of ours"),
+        ("junk", b"junk", kitchen.VERSION, f"{path} is no library of ours"),
+        ("no such functions", KITCHEN.read_bytes(), kitchen.VERSION, f"{path} is no library of ours"),
+        ("older", LIBRARY.read_bytes(), kitchen.VERSION + 1, f"has the interface {kitchen.VERSION}; this module is for"),
+        ("usable", LIBRARY.read_bytes(), kitchen.VERSION, ""),
+    ):
+        if content is not None:
+            path.write_bytes(content)
+        text = (ROOT / "host" / "kitchen.py").read_text()
+        module.write_text(text.replace(f"\nVERSION = {kitchen.VERSION}\n", f"\nVERSION = {version}\n"))
+        status, output, errors = ran([*call, "jobs/kitchen.txt"], cwd=tree)
+        if not phrase:
+            check(status == 0 and "Further kitchen 1, of 7 articles:" in output, f"{label}: {status}\n{output}{errors}")
+            continue
+        check((status, output) == (1, "") and phrase in errors, f"a library, {label}: {status}\n{output}{errors}")
+        status, output, _ = ran([*call, "--json", "jobs/kitchen.txt", "jobs/impossible.txt"], cwd=tree)
+        equal((status, [json.loads(line)["answer"] for line in output.splitlines()]), (1, ["error", "no such kitchen"]), label)
+        tally["libraries that are not used"] += 1
+    module.write_text((ROOT / "host" / "kitchen.py").read_text())
+    path.unlink()
+    status, output, _ = ran(["tools/job", "ask", "jobs/kitchen.txt"], cwd=tree)
+    check(status == 0 and output.startswith("A kitchen of 7 articles"), f"without --next no library is needed: {output}")
+
+
+# ---- the module
+
+
+class Beside:
+    """The module's calls beside those of the second program."""
+
+    def __init__(self, tally):
+        self.ours, self.tally = kitchen.Library(), tally
+
+    def same(self, label, ours, theirs):
+        """Both are called; a refusal of one has to be the same refusal of the other."""
+        try:
+            found = ours()
+        except kitchen.Refused as refusal:
+            found = f"refused {refusal.number} at {refusal.place}"
+        expected = reader.outcome(theirs)
+        answers = {"refused 14 at 0": kitchen.NoSelection, "refused 15 at 0": kitchen.NoPlan, "refused 16 at 0": None}
+        if isinstance(expected, str) and expected in answers:
+            expected = answers[expected]
+            self.tally[f"answers {expected}"] += 1
+        elif isinstance(expected, str):
+            self.tally[re.match(r"refused \d+", expected)[0]] += 1
+        self.tally[label.split()[0]] += 1
+        equal(found, expected, label)
+
+    def choose(self, file, floor=0, goals=None, groups=None):
+        def second():
+            job = rules.read(file, (reader.CHOICE,))
+            lists = ([job.order] if job.order else []) if goals is None else goals
+            return kitchen.Selection(*rules.choose(file, rules.own_groups(job) if groups is None else groups, lists, floor))
+
+        label = f"choose {file.hex()}, {floor}, {goals}, {groups}"
+        self.same(label, lambda: self.ours.choose(file, floor, goals, groups), second)
+
+    def filter_pass(self, file, live, goal, groups=None):
+        def second():
+            job = rules.read(file, (reader.CHOICE,))
+            return rules.filter_pass(file, rules.own_groups(job) if groups is None else groups, live, goal)
+
+        self.same(f"pass {file.hex()}, {live}, {goal}, {groups}", lambda: self.ours.filter_pass(file, live, goal, groups), second)
+
+    def partition(self, file):
+        second = lambda: bytes(rules.own_groups(rules.read(file, (reader.CHOICE,))))
+        self.same(f"partition {file.hex()}", lambda: self.ours.partition(file), second)
+
+    def selections(self, file, floor=0):
+        second = lambda: [s for s in rules.selections(rules.read(file, (reader.CHOICE,))) if rules.number(s) >= floor]
+        ours = lambda: [answer.articles for answer in self.ours.selections(file, floor)]
+        self.same(f"selections {file.hex()}, {floor}", ours, second)
+
+    def plan(self, file):
+        def ours():
+            answer = self.ours.plan(file)
+            if answer is kitchen.NoPlan:
+                return answer
+            return rules.is_plan(reader.read(file), answer.rounds), len(answer.rounds)
+
+        self.same(f"plan {file.hex()}", ours, lambda: (True, rules.plan(file, 16)[1]))
+
+    def layers(self, file, layer):
+        for sort, size in (("fact", 32), ("round", 64)):
+            def second():
+                members, words = rules.layer(file, sort, layer, [0] * size)
+                return members, [rules.of(word) for word in words]
+
+            call = self.ours.fact_layer if sort == "fact" else self.ours.round_layer
+            self.same(f"{sort} layer {layer} {file.hex()}", lambda: call(file, layer), second)
+
+    def names(self, file, numbers, names):
+        for number in numbers:
+            start, length = rules.name(file, number)
+            self.same(f"name {number} {file.hex()}", lambda: self.ours.name(file, number), lambda: file[start : start + length])
+        for name in names:
+            self.same(f"find {name} {file.hex()}", lambda: self.ours.find(file, name), lambda: rules.find(file, name))
+
+    def alike(self, a, b):
+        self.same(f"alike {a.hex()} {b.hex()}", lambda: self.ours.alike(a, b), lambda: rules.compare(a, b))
+
+    def read(self, file):
+        ours = lambda: kitchen.written(kitchen.read(file))
+        self.same(f"read {file.hex()}", ours, lambda: reader.written(reader.read(file)))
+
+    def each(self, file):
+        """Every call on a file that need not be in order."""
+        self.read(file)
+        self.partition(file)
+        self.choose(file)
+        self.choose(file, groups=[0] * 64)
+        self.choose(file, goals=[], groups=[])
+        self.filter_pass(file, set(), {0})
+        self.filter_pass(file, {0}, {0}, [0] * 64)
+        self.selections(file)
+        self.plan(file)
+        self.layers(file, 0)
+        self.names(file, [0, 1, 2**64 - 1], [b"", b"a"])
+        self.alike(file, reader.A)
+        self.alike(reader.A, file)
+
+
+@section(
+    "module", "read", "choose", "pass", "partition", "selections", "plan", "fact", "round", "name", "find", "alike", "unusable", "built",
+    "answers NoSelection", "answers NoPlan", "answers None", *(f"refused {number}" for number in range(1, 14))
+)  # fmt: skip
+def module(tally, folder):
+    draw, beside = random.Random(5), Beside(tally)
+    for file in [*reader.BASES.values(), *draws.over_limits()]:
+        beside.each(file)
+    for _ in range(150):
+        choice_calls(beside, reader.written(draws.drawn_choice(draw)), draw)
+        fitting_calls(beside, reader.written(draws.drawn_fitting(draw)), draw)
+    for _ in range(5):
+        for job in (draws.drawn_choice(draw), draws.drawn_fitting(draw)):
+            for file in draws.damaged(reader.written(job), draw):
+                beside.each(file)
+    past_the_words(tally, beside.ours)
+    built(tally, draw)
+    shown_in_the_module(tally)
+
+
+def choice_calls(beside, file, draw):
+    job = reader.read(file)
+    n, numbers = len(job.articles), list(map(rules.number, rules.selections(job)))
+    part = lambda: {wish for wish in job.order if draw.random() < 0.7}
+    beside.partition(file)
+    beside.selections(file, draw.choice([0, *numbers]))
+    lent = [None, list(range(n)), [0] * n, rules.own_groups(job)[:-1], [draw.randrange(n + 1) for _ in range(n)], [255] * 64]
+    for groups in lent:
+        goals = draw.choice([None, [], [part()], [job.order, part()], [part(), {63}]])
+        beside.choose(file, draw.choice([0, *numbers]) + draw.randrange(2), goals, groups)
+        beside.filter_pass(file, draws.some(draw, n + draw.randrange(2), 0.8), draw.choice([job.order, part(), {63}]), groups)
+    for floor in (0, 2**n - 1, 2**64 - 1):
+        beside.choose(file, floor)
+    beside.names(file, range(n + 1), [article.name for article in job.articles] + [b"", b"no such", b"n" * 33])
+    renamed_job = job._replace(articles=[article._replace(name=b"x") for article in job.articles])
+    for other in (renamed_job, job._replace(order=part()), job._replace(articles=job.articles[:-1])):
+        beside.alike(file, reader.written(other))
+
+
+def fitting_calls(beside, file, draw):
+    job = reader.read(file)
+    beside.plan(file)
+    for layer in sorted({0, 1, job.horizon, job.horizon + 1, 2**64 - 1}):
+        beside.layers(file, layer)
+    beside.names(file, range(len(job.steps) + 1), [step.name for step in job.steps] + [b"no such"])
+
+
+def unusable(action):
+    """Whether it is turned down as not usable."""
+    try:
+        action()
+    except kitchen.Unusable:
+        return True
+    return False
+
+
+def past_the_words(tally, library):
+    """No number is cut to 64 bits in silence, no group to a byte, and no job is written that a file cannot state."""
+    a, f, step, article = reader.A, reader.F, kitchen.step, kitchen.article
+    for label, action in {
+        "floor": lambda: library.choose(a, 2**64), "floor below 0": lambda: library.choose(a, -1),
+        "floor of selections": lambda: list(library.selections(a, 2**64)),
+        "goal": lambda: library.choose(a, goals=[{64}]), "second goal": lambda: library.choose(a, goals=[{0}, {70}]),
+        "live": lambda: library.filter_pass(a, {64}, {0}), "goal of a pass": lambda: library.filter_pass(a, {0}, {64}),
+        "group": lambda: library.choose(a, groups=[0, 0, 256]), "group below 0": lambda: library.filter_pass(a, {0}, {0}, [-1, 0, 0]),
+        "fact layer": lambda: library.fact_layer(f, 2**64), "round layer": lambda: library.round_layer(f, 2**65 + 1),
+        "layer below 0": lambda: library.fact_layer(f, -1), "name": lambda: library.name(a, 2**64), "name below 0": lambda: library.name(a, -1),
+        "no library": lambda: kitchen.Library(ROOT / "missing.so"), "no library of ours": lambda: kitchen.Library(ROOT / "README.md"),
+        "65 articles": lambda: kitchen.choice(0, (), [article()] * 65), "65 wishes": lambda: kitchen.choice(65, (), []),
+        "a wish too high": lambda: kitchen.choice(2, {2}, []), "an article's wish": lambda: kitchen.choice(2, {0}, [article({2})]),
+        "a clash with itself": lambda: kitchen.choice(1, (), [article((), {0})]), "no such clash": lambda: kitchen.choice(1, (), [article((), {1})]),
+        "a long name": lambda: kitchen.choice(1, (), [article(name="ä" * 17)]), "33 steps": lambda: kitchen.fitting(0, 0, (), (), [step()] * 33),
+        "33 facts": lambda: kitchen.fitting(33, 0, (), (), []), "17 rounds": lambda: kitchen.fitting(0, 17, (), (), []),
+        "a fact below 0": lambda: kitchen.fitting(2, 1, {-1}, (), []), "a fact too high": lambda: kitchen.fitting(2, 1, (), (), [step(takes={2})]),
+    }.items():  # fmt: skip
+        check(unusable(action), f"{label} is not usable")
+        tally["unusable"] += 1
+
+
+def built(tally, draw):
+    """A job that is built here is written as the second program writes it; of two that clash either may say so."""
+    for _ in range(60):
+        theirs = draws.drawn_choice(draw)
+        articles = [kitchen.article(article.wishes, (), article.name) for article in theirs.articles]
+        for high, article in enumerate(theirs.articles):
+            for low in article.clashes:
+                one, other = draw.choice([(low, high), (high, low)])
+                articles[one].sets[1].add(other)
+        equal(kitchen.written(kitchen.choice(theirs.wishes, theirs.order, articles)), reader.written(theirs), "a choice, built")
+        theirs = draws.drawn_fitting(draw)
+        ours = kitchen.fitting(theirs.facts, theirs.horizon, theirs.start, theirs.goal, [kitchen.step(*step) for step in theirs.steps])
+        equal(kitchen.written(ours), reader.written(theirs), "a fitting, built")
+        tally["built"] += 2
+
+
+def shown_in_the_module(tally):
+    """The example at the head of the module does what it says."""
+    example = "\n".join(line[4:] for line in kitchen.__doc__.splitlines() if line.startswith("    "))
+    status, output, errors = ran([sys.executable, "-B", "-c", example], cwd=ROOT / "host")
+    equal((status, output), (0, "[0, 1]\n"), f"the example of the module: {errors}")
+    tally["built"] += 1
+
+
+# ---- mistakes on purpose
+
+
+def with_last_wish(job):
+    """A conflict that never leaves the last wish out."""
+    found = true_conflict(job)
+    last = max(job.sets[0])
+    if last in found.part:
+        return found
+    rest = advising.Rest(last, kitchen.Selection(set(), set()), advising.has_selection(advising.ordered(job, job.sets[0] - {last})))
+    return found._replace(part=found.part | {last}, rests=[*found.rests, rest])
+
+
+def skipping(job, first, wanted):
+    """The further kitchens, but for the first of them."""
+    return true_further(job, first, wanted + 1)[1:]
+
+
+def floorless(library, file, floor=0, goals=None, groups=None):
+    return true_choose(library, file, 0, goals, groups)
+
+
+true_conflict, true_further, true_choose = advising.conflict, asking.further, kitchen.Library.choose
+# What errs, where, what stands in its place, and the section that has to find it.
+FAULTS = {
+    1: ("in_every answers what in_some does", advising, "in_every", advising.in_some, "advise"),
+    2: ("conflict leaves the last wish in", advising, "conflict", with_last_wish, "advise"),
+    3: ("emptied empties nothing", advising, "emptied", lambda job, out: job, "advise"),
+    4: ("further skips one", asking, "further", skipping, "next"),
+    5: ("no set aside is tried", asking, "try_aside", lambda job, aside: None, "stand_in"),
+    6: ("no plan is tried to be shorter", asking, "try_plan", lambda job, rounds: None, "stand_in"),
+    7: ("every answer has status 0", commands, "status_of", lambda answer: 0, "statuses"),
+    8: ("all wishes of an article are told, not only those of the order", telling, "fulfilled",
+        lambda text, number: text.job.records[number].sets[0], "drawn"),
+    9: ("choose ignores the floor", kitchen.Library, "choose", floorless, "module"),
+}  # fmt: skip
+
+
+def plant(fault):
+    words, where, name, mistake, place = FAULTS[fault]
+    setattr(where, name, mistake)
+    print(f"on purpose, {words}", flush=True)
+    return place
+
+
+# ---- the run
+
+
+def run(name):
+    function, wanted = SECTIONS[name]
+    before, tally, known = checks, Counter(), len(failures)
+    with tempfile.TemporaryDirectory() as folder:
+        try:
+            function(tally, pathlib.Path(folder).resolve())
+        except Exception as trouble:
+            check(False, f"{name} broke: {type(trouble).__name__}: {trouble}")
+    for word in wanted:
+        check(tally[word], f"{name} looked at nothing of: {word}")
+    for failure in failures[known : known + MOST_SHOWN]:
+        print(f"FAILED {name}: {failure}", flush=True)
+    if len(failures) - known > MOST_SHOWN:
+        print(f"FAILED {name}: {len(failures) - known - MOST_SHOWN} more", flush=True)
+    print(", ".join(f"{word}: {number}" for word, number in {f"{name} checks": checks - before, **tally}.items()), flush=True)
+
+
+def main():
+    parser = argparse.ArgumentParser(description="Tests of what tools/job answers.")
+    parser.add_argument("sections", nargs="*", metavar="SECTION", help=", ".join(SECTIONS))
+    parser.add_argument("--fault", type=int, choices=FAULTS, help="a mistake of the tool, made on purpose")
+    given = parser.parse_args()
+    unknown = [name for name in given.sections if name not in SECTIONS]
+    if unknown:
+        parser.error(f"there is no section {unknown[0]}; expected {', '.join(SECTIONS)}")
+    for path in (KITCHEN, LIBRARY):
+        if not path.exists():
+            print(f"FAILED {path} is missing")
+            return 1
+    place = [plant(given.fault)] if given.fault else list(SECTIONS)
+    for name in given.sections or place:
+        run(name)
+    print(f"{checks} checks" + (f", {len(failures)} failed" if failures else ""))
+    return 1 if failures else 0
+
+
+if __name__ == "__main__":
+    sys.exit(main())
