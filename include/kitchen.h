@@ -3,63 +3,85 @@
  * docs/RULES.md says how a job file is laid out and what each call answers; every function here is proved to
  * answer just that, for every input. `tools/job write` makes a job file from a text. The library is built by
  *
- *     rt staticlib capi
- *     cc -shared -o target/libkitchen.so -Wl,--whole-archive target/staticlib/libcapi.a -Wl,--no-whole-archive
+ *     tools/library
  *
- * of which the second line is for languages that load a library. A program in C that chooses, from a job file on
- * standard input, is built by `cc -I include first.c target/staticlib/libcapi.a -o first` and is tried by
- * `tools/job write jobs/kitchen.txt | ./first`:
+ * which makes target/lib/libkitchen.a, an archive to link, and target/lib/libkitchen.so, a shared library for languages
+ * that load one; its soname is libkitchen.so.2. `make install` puts both and this header where your system has such
+ * things. A program in C that chooses, from a job file on standard input, is built by
+ * `cc -I include first.c target/lib/libkitchen.a -o first` and is tried by
+ * `tools/job write jobs/kitchen.txt | ./first`. Its status is 3 where there is no such kitchen, and 1 where the file is
+ * refused:
  *
  *     #include "kitchen.h"
  *     #include <stdio.h>
  *     int main(void)
  *     {
- *         uint8_t file[4096], groups[64];
+ *         uint8_t file[KITCHEN_LONGEST + 1], groups[KITCHEN_ARTICLES];
  *         uint64_t out[2];
  *         size_t len = fread(file, 1, sizeof file, stdin);
- *         uint32_t reason = kitchen_partition(file, len, groups, 64, out);
+ *         uint32_t reason = kitchen_partition(file, len, groups, KITCHEN_ARTICLES, out);
  *         if (reason == 0)
- *             reason = kitchen_choose(file, len, groups, 64, NULL, 0, 0, out);
- *         for (int i = 0; reason == 0 && i < 64; i++)
+ *             reason = kitchen_choose(file, len, groups, KITCHEN_ARTICLES, NULL, 0, 0, out);
+ *         if (reason == KITCHEN_NO_SELECTION) {
+ *             printf("no such kitchen\n");
+ *             return 3;
+ *         }
+ *         if (reason) {
+ *             printf("refused %u at %u\n", (unsigned)reason, (unsigned)out[0]);
+ *             return 1;
+ *         }
+ *         for (int i = 0; i < KITCHEN_ARTICLES; i++)
  *             if (out[0] >> i & 1)
  *                 printf("article %d\n", i);
- *         if (reason)
- *             printf("refused %u at %u\n", (unsigned)reason, (unsigned)out[0]);
- *         return reason != 0;
+ *         return 0;
  *     }
  *
  * The same in Python, by `tools/job write jobs/kitchen.txt | python3 first.py`:
  *
  *     import ctypes, sys
- *     library, size, number = ctypes.CDLL("target/libkitchen.so"), ctypes.c_size_t, ctypes.c_uint64
+ *     library, size, number = ctypes.CDLL("target/lib/libkitchen.so"), ctypes.c_size_t, ctypes.c_uint64
  *     file, groups, out = sys.stdin.buffer.read(), (ctypes.c_uint8 * 64)(), (number * 2)()
  *     reason = library.kitchen_partition(file, size(len(file)), groups, size(64), out)
  *     if reason == 0:
  *         reason = library.kitchen_choose(file, size(len(file)), groups, size(64), None, size(0), number(0), out)
- *     if reason == 0:
- *         print(*(f"article {i}\n" for i in range(64) if out[0] >> i & 1), sep="", end="")
- *     else:
+ *     if reason == 14:
+ *         print("no such kitchen")
+ *         sys.exit(3)
+ *     if reason:
  *         print(f"refused {reason} at {out[0]}")
- *     sys.exit(reason != 0)
+ *         sys.exit(1)
+ *     print(*(f"article {i}\n" for i in range(64) if out[0] >> i & 1), sep="", end="")
  *
  * host/ has longer examples, with names and plans.
  *
- * Each function returns 0 for an answer, and otherwise the number of the reason why it was turned down
- * (docs/RULES.md, "Reasons to turn a call down"; `tools/job explain` puts it into words). It always writes both
- * words of `out`: the values of the answer, named beside each function, or the place of the refusal and 0; unused
- * words are 0. `out` is the return value and no lent buffer: reason 10 never speaks of it.
+ * Answers. Each of the nine calls returns 0 for an answer, and otherwise the number of the reason why it was turned
+ * down. 14, 15 and 16 are answers as well, in the form of a refusal: the input is in order, and there is no such
+ * selection, plan or name. All others say that the input is at fault; `tools/job explain` puts them into words. A call
+ * always writes both words of `out`: the values of the answer, named beside each function, or the place of the refusal
+ * and 0; unused words are 0. `out` must not be null. It is the return value and no lent buffer: reason 10 never speaks
+ * of it.
  *
- * A slice is a pointer and a length, in elements. The pointer of an empty slice may be null. Buffers must not
- * overlap each other, the file or `out`. A refusal writes to no buffer; elements behind those that an answer
- * fills keep what they held. Sets are numbers by their bits: bit i stands for member i. Nothing here allocates,
- * blocks, or keeps a pointer; calls may run in several threads at once. A thread that plans should have a stack of
- * 1 MB, within which the gate runs the planner.
+ * Arguments. A slice is a pointer and a length, in elements. The pointer of an empty slice may be null. Buffers must
+ * not overlap each other, the file or `out`. A refusal writes to no buffer; elements behind those that an answer fills
+ * keep what they held. Sets are numbers by their bits: bit i stands for member i. `groups` must have at least a byte
+ * for each article of the file; KITCHEN_ARTICLES bytes always do, and more may be lent. No file that is in order is
+ * longer than KITCHEN_LONGEST bytes. A program that reads one byte more of a file needs no more of it: a longer file is
+ * refused, and by these bytes in the same way.
+ *
+ * Threads. Nothing here allocates, blocks, or keeps a pointer; calls may run in several threads at once. A thread that
+ * plans MUST have a stack of 1 MB, within which our tests run the planner; the largest call that we measured takes
+ * 267,448 bytes. With 128 KB the sample jobs/fitting.txt crashes.
+ *
+ * Time. No call can be interrupted, and none has a limit of time. In our bench a choice takes some thousandths of a
+ * millisecond, and a plan mostly some hundredths to some tenths of one; the hardest plans that we could find take about
+ * a second, and one takes some 25 s. No bound is promised: both problems are hard. If you must not wait, plan in a
+ * process of its own, which you can end.
  */
 #ifndef KITCHEN_H
 #define KITCHEN_H
 
-/* Goes up whenever something below changes. */
-#define KITCHEN_VERSION 1
+/* Goes up whenever something below changes. kitchen_version() has the same of the library that was built. */
+#define KITCHEN_VERSION 2
 
 #include <stddef.h>
 #include <stdint.h>
@@ -68,7 +90,47 @@
 extern "C" {
 #endif
 
-/* Our own partition: the group of each article, in its byte. Needs a byte an article.
+/* What a call returns: 0, or a reason by its number in docs/RULES.md, "Reasons to turn a call down". */
+enum {
+    KITCHEN_ANSWERED = 0,
+    KITCHEN_WRONG_KIND = 1,       /* the file is empty, or is not of the kind that the call takes */
+    KITCHEN_ENDS_EARLY = 2,       /* the file ends before an item is complete */
+    KITCHEN_OVER_LIMIT = 3,       /* a count or the horizon exceeds its limit */
+    KITCHEN_FORBIDDEN_BIT = 4,    /* a bit map has a bit that must be 0 */
+    KITCHEN_EMPTY_FIELD = 5,      /* a record's field is present and zero, or a name has length 0 */
+    KITCHEN_ABSENT_MEMBER = 6,    /* a set has a member that the file lacks, or a clash is not with a lower article */
+    KITCHEN_LONG_NAME = 7,        /* a name is longer than 32 bytes */
+    KITCHEN_TRAILING_BYTES = 8,   /* something stands behind the last record */
+    KITCHEN_ABSENT_LAYER = 9,     /* a layer number is out of range */
+    KITCHEN_SHORT_BUFFER = 10,    /* a lent buffer is too short */
+    KITCHEN_FALSE_PARTITION = 11, /* a group byte is n or more, or two articles that do not clash share a group */
+    KITCHEN_ABSENT_ARTICLE = 12,  /* the live set has an article that the file lacks */
+    KITCHEN_WRONG_GOAL = 13,      /* a projection goal is empty, or has a wish that the order lacks */
+    /* answers to input that is in order */
+    KITCHEN_NO_SELECTION = 14,    /* no selection at or above the floor exists */
+    KITCHEN_NO_PLAN = 15,         /* no plan within the horizon exists */
+    KITCHEN_NO_NAME = 16          /* no article or step has that name */
+};
+
+/* The limits of files and buffers. */
+enum {
+    KITCHEN_ARTICLES = 64,          /* of a choice file, and the bytes of `groups` that always do */
+    KITCHEN_WISHES = 64,            /* of a choice file */
+    KITCHEN_STEPS = 32,             /* of a fitting file */
+    KITCHEN_FACTS = 32,             /* of a fitting file */
+    KITCHEN_ROUNDS = 16,            /* the highest horizon, and the words of `rounds` that always do */
+    KITCHEN_NAME_BYTES = 32,        /* of a name */
+    KITCHEN_FACT_WORDS = 32,        /* the mutex words of a fact layer */
+    KITCHEN_ROUND_WORDS = 64,       /* the mutex words of a round layer */
+    KITCHEN_LONGEST_CHOICE = 3211,  /* no choice file that is in order has more bytes */
+    KITCHEN_LONGEST_FITTING = 1484, /* no fitting file that is in order has more bytes */
+    KITCHEN_LONGEST = 3211          /* the greater of the two */
+};
+
+/* The number of the interface that was built: KITCHEN_VERSION, where the header belongs to the library. */
+uint32_t kitchen_version(void);
+
+/* Our own partition: the group of each article, in its byte. Needs a byte for each article.
  * out: 0, 0 */
 uint32_t kitchen_partition(const uint8_t *file, size_t file_len, uint8_t *groups, size_t groups_len, uint64_t out[2]);
 
@@ -77,7 +139,9 @@ uint32_t kitchen_partition(const uint8_t *file, size_t file_len, uint8_t *groups
 uint32_t kitchen_pass(const uint8_t *file, size_t file_len, const uint8_t *groups, size_t groups_len, uint64_t live,
                       uint64_t goal, uint64_t out[2]);
 
-/* The smallest selection at or above the floor, after a pass for each goal in turn. 14 is "no selection".
+/* The smallest selection at or above the floor, after a pass for each goal in turn. Smallest is its number, the sum of
+ * 2^i over its articles i, and not the count of them: a selection without the last articles of the file goes before one
+ * with them, so what should be preferred stands first. 14 is "no selection".
  * out: the selection, the set aside */
 uint32_t kitchen_choose(const uint8_t *file, size_t file_len, const uint8_t *groups, size_t groups_len,
                         const uint64_t *goals, size_t goals_len, uint64_t floor, uint64_t out[2]);

@@ -3,12 +3,15 @@
 A check returns how many things it saw pass, and raises Failed with the reason where one did not.
 A check that finds nothing to look at fails: one that looked at nothing has shown nothing.
 """
+import ctypes
 import functools
 import hashlib
 import os
 import pathlib
 import re
 import resource
+import shlex
+import shutil
 import subprocess
 import sys
 import time
@@ -190,54 +193,235 @@ def kitchen_prints():
 
 @functools.cache
 def built_library():
-    """The archive of the C interface, and a shared library made of it."""
-    run(["rt", "staticlib", "capi"])
-    archive, shared = "target/staticlib/libcapi.a", "target/libkitchen.so"
-    run(["cc", "-shared", "-o", shared, "-Wl,--whole-archive", archive, "-Wl,--no-whole-archive"])
-    return archive, shared
+    """The archive of the C interface and the shared library, as tools/library builds them."""
+    run(["tools/library"])
+    return "target/lib/libkitchen.a", "target/lib/libkitchen.so"
+
+
+def fed(command, file, status=0):
+    """What a command prints that has this file on its standard input."""
+    return run(["sh", "-c", 'exec "$@" <"$0"', str(file), *command], status)
+
+
+STRICT = ["-Wall", "-Wextra", "-Werror", "-pedantic", "-I", "include"]
+
+
+def sample(name):
+    """The job file of a sample text."""
+    path = f"target/{name}.job"
+    run(["tools/job", "write", f"jobs/{name}.txt", "-o", path])
+    return path
+
+
+def made(name, file):
+    """A job file of these bytes."""
+    path = f"target/{name}.job"
+    (ROOT / path).write_bytes(file)
+    return path
+
+
+def interface():
+    """The header's text, and the number of the interface that it states."""
+    text = (ROOT / "include" / "kitchen.h").read_text()
+    stated = re.findall(r"^#define KITCHEN_VERSION ([1-9][0-9]*)$", text, re.M)
+    demand(len(stated) == 1, f"the header states the versions {stated}")
+    return text, stated[0]
+
+
+def one_number(stated, capi, shared):
+    """The header, the constant of capi and the function that was built have one number of the interface."""
+    constant = re.findall(r"^const VERSION: u32 = ([0-9]+);$", capi, re.M)
+    returned = str(ctypes.CDLL(shared).kitchen_version())
+    demand(constant == [stated] and returned == stated, f"the number is {stated} in the header, {constant} in capi, and {returned} when it is called")
+
+
+def one_set_of_names(declared, capi, shared):
+    """The header declares each function of capi once, and the shared library has them and no others to be seen."""
+    marked = re.findall(r'pub extern "C" fn (\w+)\(', capi)
+    exported = re.findall(r" T (\w+)$", run(["nm", "-D", "--defined-only", shared]), re.M)
+    demand(len(declared) == 10 and sorted(declared) == sorted(marked), f"the header declares {declared}, capi has {marked}")
+    demand(sorted(declared) == sorted(exported), f"the header declares {declared}, the shared library has {exported}")
+
+
+def named_numbers(text, shared):
+    """The reasons of the header go from 0 to 16, and its limits are those of the rules and of the library."""
+    reasons, limits = (dict(re.findall(r"^    KITCHEN_(\w+) = (\d+)", block, re.M)) for block in re.findall(r"^enum \{\n(.*?)^\};", text, re.M | re.S))
+    demand(list(map(int, reasons.values())) == list(range(17)), f"the header's reasons are {reasons}")
+    limits = {name: int(value) for name, value in limits.items()}
+    name_field = 1 + limits["NAME_BYTES"]
+    longest = (11 + limits["ARTICLES"] * (1 + 2 * 8 + name_field), 12 + limits["STEPS"] * (1 + 3 * 4 + name_field))
+    demand((limits["LONGEST_CHOICE"], limits["LONGEST_FITTING"], limits["LONGEST"]) == (*longest, max(longest)), f"the longest files have {longest} bytes")
+    library, out = ctypes.CDLL(shared), (ctypes.c_uint64 * 2)()
+    for kind, place, limit in ((67, 1, "ARTICLES"), (67, 2, "WISHES"), (70, 1, "STEPS"), (70, 2, "FACTS"), (70, 3, "ROUNDS")):
+        for count in (limits[limit], limits[limit] + 1):
+            file = bytes([kind, 0, 0, 0][:place] + [count])
+            refused = library.kitchen_find(file, ctypes.c_size_t(len(file)), None, ctypes.c_size_t(0), out), out[0]
+            demand(refused == ((2, len(file)) if count == limits[limit] else (3, place)), f"{limit} {count}: refused {refused}")
+    return len(reasons) + len(limits)
 
 
 def header():
-    """include/kitchen.h declares the functions of capi, each once, and no others; it is plain C; and the programs in it run."""
-    text = (ROOT / "include" / "kitchen.h").read_text()
+    """include/kitchen.h declares the functions of capi and no others, has its number, its reasons and its limits, and is plain C; the two programs in it run."""
+    text, number = interface()
+    capi = (ROOT / "crates" / "capi" / "src" / "lib.rt").read_text()
     declared = re.findall(r"^uint32_t (kitchen_\w+)\(", text, re.M)
-    exported = re.findall(r'pub extern "C" fn (\w+)\(', (ROOT / "crates" / "capi" / "src" / "lib.rt").read_text())
-    demand(sorted(declared) == sorted(exported) and len(set(declared)) == 9, f"the header declares {declared}, capi exports {exported}")
-    demand(re.search(r"^#define KITCHEN_VERSION [1-9][0-9]*$", text, re.M), "the header has no version")
-    strict = ["cc", "-std=c99", "-Wall", "-Wextra", "-Werror", "-I", "include"]
-    run([*strict, "-fsyntax-only", "-x", "c", "include/kitchen.h"])
-    as_cpp = ["cc", "-fsyntax-only", "-Wall", "-Wextra", "-Werror", "-x", "c++"]
-    if subprocess.run([*as_cpp, "/dev/null"], capture_output=True).returncode == 0:  # only C is asked of a compiler
-        run([*as_cpp, "include/kitchen.h"])
-    archive, _ = built_library()
-    shown = re.findall(r"(?:^ \*     .*\n)+", text, re.M)
-    demand(len(shown) == 3, "the header shows how to build, a program in C, and one in Python")
-    for name, program in zip(("first.c", "first.py"), shown[1:]):
-        (ROOT / "target" / name).write_text(re.sub(r"^ \*     ", "", program, flags=re.M))
-    run([*strict, "target/first.c", archive, "-o", "target/first"])
-    run(["tools/job", "write", "jobs/A.txt", "-o", "target/A.job"])
-    for program in ("target/first", f"{sys.executable} -B target/first.py"):
-        printed = run(["sh", "-c", f"{program} < target/A.job"])
-        demand(printed == "article 2\n", f"{program} of the header prints of A: {printed}")
-        printed = run(["sh", "-c", f"{program} < /dev/null"], status=1)
-        demand(printed == "refused 1 at 0\n", f"{program} of the header prints of an empty file: {printed}")
-    return len(declared) + 2
+    archive, shared = built_library()
+    one_set_of_names(declared, capi, shared)
+    one_number(number, capi, shared)
+    named = named_numbers(text, shared)
+    run(["cc", "-std=c99", *STRICT, "-fsyntax-only", "-x", "c", "include/kitchen.h"])
+    in_c, in_python = shown(text)
+    (ROOT / "target" / "first.c").write_text(in_c)
+    (ROOT / "target" / "first.py").write_text(in_python)
+    run(["cc", "-std=c99", *STRICT, "target/first.c", archive, "-o", "target/first"])
+    first_program(["target/first"])
+    first_program([sys.executable, "-B", "target/first.py"])
+    return len(declared) + named + 2
+
+
+def shown(text):
+    """The programs in C and in Python that stand in the header's comment, behind the command that builds the library."""
+    blocks = [re.sub(r"^ \*     ", "", block, flags=re.M) for block in re.findall(r"(?:^ \*     .*\n)+", text, re.M)]
+    demand(len(blocks) == 3 and blocks[0] == "tools/library\n", "the header shows how to build, a program in C, and one in Python")
+    return blocks[1:]
+
+
+def first_program(command):
+    """A first program of the header tells an answer, an answer that there is none, and a refusal."""
+    expected = {sample("A"): (0, "article 2\n"), sample("impossible"): (3, "no such kitchen\n"), made("empty", b""): (1, "refused 1 at 0\n")}
+    for file, (status, text) in expected.items():
+        printed = fed(command, file, status)
+        demand(printed == text, f"{command[-1]} of the header prints of {file}: {printed}")
+
+
+def example(command):
+    """An example prints what is stored of the sample jobs, and its status tells refused from none from fine."""
+    files = [sample(text.stem) for text in sorted((ROOT / "jobs").glob("*.txt"))]
+    demand({"target/A.job", "target/F.job"} <= set(files), "jobs/ lacks the samples A and F")
+    a, f = ((ROOT / "target" / name).read_bytes() for name in ("A.job", "F.job"))
+    short, too_long = made("short", f[:3] + b"\1" + f[4:]), made("too_long", a + bytes(5000))
+    fine = "chosen: number 2;\nset aside:\n"
+    tries = [
+        (files, 3, (ROOT / "host" / "stdout").read_text()),  # one of the samples has no selection
+        (["target/A.job"], 0, fine),
+        ([short, "target/A.job"], 3, "no such plan\n" + fine),
+        ([too_long, short], 1, f"refused 8 at {len(a)}\nno such plan\n"),
+        (["target/absent.job", "target/A.job"], 1, fine),
+    ]
+    for given, status, expected in tries:
+        printed = run([*command, *given], status)
+        demand(printed == expected, f"{command[-1]} prints something else of {given}: {printed}")
+    return len(files) + len(tries) - 1
 
 
 def hosts():
-    """The C example and the Python example print the same of the sample jobs, and what is stored."""
+    """The C example and the Python example print what is stored of the sample jobs, and end with the status that fits."""
     archive, shared = built_library()
-    run(["cc", "-std=c99", "-Wall", "-Wextra", "-Werror", "-I", "include", "host/example.c", archive, "-o", "target/example"])
-    files = []
-    for text in sorted((ROOT / "jobs").glob("*.txt")):
-        files.append(f"target/{text.stem}.job")
-        run(["tools/job", "write", str(text), "-o", files[-1]])
-    demand(files, "jobs/ has no sample")
-    expected = (ROOT / "host" / "stdout").read_text()
-    for command in (["target/example"], [sys.executable, "-B", "host/example.py", shared]):
-        printed = run([*command, *files], status=1)  # one of the samples has no selection
-        demand(printed == expected, f"{command[0]} prints something else than host/stdout: {printed}")
-    return 2 * len(files)
+    run(["cc", "-std=c99", *STRICT, "host/example.c", archive, "-o", "target/example"])
+    run(["target/example"], status=2)
+    return sum(example(command) for command in (["target/example"], [sys.executable, "-B", "host/example.py", shared]))
+
+
+def as_cpp():
+    """The header and the C example are C++, too, and what comes of that prints the same."""
+    archive, _ = built_library()
+    run(["c++", "-std=c++11", *STRICT, "-fsyntax-only", "-x", "c++", "include/kitchen.h"])
+    run(["c++", "-std=c++11", *STRICT, "-x", "c++", "host/example.c", "-x", "none", archive, "-o", "target/example_cpp"])
+    return 1 + example(["target/example_cpp"])
+
+
+def rust():
+    """The Rust example is built without packages and prints the same."""
+    folder = pathlib.Path(built_library()[0]).parent
+    run(["rustc", "--edition", "2021", "-D", "warnings", "-L", f"native={folder}", "-l", "static=kitchen", "host/example.rs", "-o", "target/example_rs"])
+    run(["target/example_rs"], status=2)
+    return example(["target/example_rs"])
+
+
+def to_install():
+    shared = f"lib/libkitchen.so.{interface()[1]}"
+    return ["bin/kitchen", "include/kitchen.h", "lib/libkitchen.a", "lib/libkitchen.so", shared, "lib/pkgconfig/kitchen.pc"]
+
+
+def files_in(folder):
+    return sorted(str(path.relative_to(folder)) for path in folder.rglob("*") if path.is_symlink() or not path.is_dir())
+
+
+def flags(folder):
+    """What the compiler is told of an installed library: by pkg-config, where that is there."""
+    if not shutil.which("pkg-config"):
+        return [f"-I{folder}/include", f"-L{folder}/lib", "-lkitchen"]
+    # the folder where it is staged, in place of the one that it is made for
+    asked = ["env", f"PKG_CONFIG_PATH={folder}/lib/pkgconfig", "pkg-config", f"--define-variable=prefix={folder}", "--cflags", "--libs", "kitchen"]
+    return shlex.split(run(asked))
+
+
+def programs_of(folder):
+    """The first program of the installed header, and a Python program, which know nothing but what was installed."""
+    source, program = "target/first_installed.c", "target/first_installed"
+    (ROOT / source).write_text(shown((folder / "include" / "kitchen.h").read_text())[0])
+    run(["cc", "-std=c99", source, *flags(folder), "-o", program])
+    first_program(["env", f"LD_LIBRARY_PATH={folder}/lib", program])
+    loads = "import ctypes, sys; print(ctypes.CDLL(sys.argv[1]).kitchen_version())"
+    printed = run([sys.executable, "-c", loads, str(folder / "lib" / "libkitchen.so")])
+    demand(printed == interface()[1] + "\n", f"from Python the installed library says that its number is {printed}")
+
+
+def installed():
+    """make install, with blanks in both folders, serves a C and a Python program that know nothing else; make uninstall leaves no file."""
+    built_library()
+    stage, prefix = ROOT.resolve() / "target" / "a stage", "/opt/a kitchen"
+    shutil.rmtree(stage, ignore_errors=True)
+    where, folder = [f"DESTDIR={stage}", f"PREFIX={prefix}"], pathlib.Path(f"{stage}{prefix}")
+    run(["make", "install", *where])
+    demand(files_in(stage) == [f"{prefix[1:]}/{name}" for name in to_install()], f"make install made {files_in(stage)}")
+    demand(f"prefix={prefix}\n" in (folder / "lib" / "pkgconfig" / "kitchen.pc").read_text(), "kitchen.pc has another prefix")
+    answers_f(folder / "bin" / "kitchen")
+    programs_of(folder)
+    run(["make", "uninstall", *where])
+    demand(not files_in(stage), f"make uninstall leaves {files_in(stage)}")
+    return len(to_install())
+
+
+def answers_f(kitchen):
+    """The program answers the fitting file F of the rules as they say."""
+    rules = (ROOT / "docs" / "RULES.md").read_text()
+    file = bytes.fromhex(re.search(r"^F in hexadecimal: ([0-9A-F ]+)\.$", rules, re.M)[1])
+    expected = re.search(r"gives exactly:\n\n```\n(.*?)```", rules, re.S)[1]
+    printed = fed([str(kitchen)], made("F_of_the_rules", file))
+    demand(printed == expected, f"{kitchen} prints of F: {printed}")
+
+
+def packed(tarball):
+    """The bytes of the tarball that make dist makes."""
+    run(["make", "dist"])
+    return (ROOT / tarball).read_bytes()
+
+
+def unpacked(tarball):
+    """The only folder of a tarball; every file in it has its sum, and the sums hold."""
+    place = ROOT / "target" / "unpacked"
+    shutil.rmtree(place, ignore_errors=True)
+    place.mkdir()
+    run(["tar", "-C", str(place), "-xzf", tarball])
+    (folder,) = place.iterdir()
+    run(["sh", "-c", 'cd "$0" && sha256sum -c --strict --quiet SHA256SUMS', str(folder)])
+    summed = sorted(line.split("  ./")[1] for line in (folder / "SHA256SUMS").read_text().splitlines())
+    demand(summed == [name for name in files_in(folder) if name != "SHA256SUMS"], f"SHA256SUMS has {summed}")
+    return folder
+
+
+def dist():
+    """make dist gives the same bytes twice; unpacked, its sums hold, its program answers F, and the C example is built against its library."""
+    built_library()
+    tarball = f"target/dist/kitchen-{interface()[1]}.tar.gz"
+    demand(packed(tarball) == packed(tarball), "make dist made two different tarballs")
+    folder = unpacked(tarball)
+    wanted = {*to_install(), "KIT", "README.md", "docs/RULES.md", "host/example.c", "jobs/A.txt", "show", "tools/job"}
+    demand(wanted <= set(files_in(folder)), f"the tarball lacks {wanted - set(files_in(folder))}")
+    answers_f(folder / "bin" / "kitchen")
+    run(["cc", "-std=c99", f"-I{folder}/include", f"{folder}/host/example.c", f"{folder}/lib/libkitchen.a", "-o", "target/example_unpacked"])
+    return len(wanted) + example(["target/example_unpacked"])
 
 
 def beside():
@@ -292,6 +476,8 @@ def snapshot():
 
 
 CHECKS = [prove_and_run, refused_for_a_fact, layout, nothing_foreign, assumptions_as_stated, trace, documents, second_program, kitchen_prints, small_stack, header, hosts, beside, faults, tool]
+# Pairs of a check and a further tool that it needs.
+EXTRA = [(as_cpp, "c++"), (rust, "rustc"), (installed, "make"), (dist, "make")]
 
 
 def main():

@@ -1,2 +1,3 @@
--- What the C interface hands back.
+-- What the C interface hands back, and its number.
 pub mod Returned
+pub mod Version

@@ -15,6 +15,7 @@ ghost use Rattle.calls.specs.Plan.{planOf, Buffer};
 ghost use Rattle.calls.specs.Find.{findOf};
 ghost use Rattle.calls.specs.Compare.{compareOf};
 ghost use Rattle.capi.specs.Returned.{returned, nothing, alone, both, test, spotted};
+ghost use Rattle.capi.specs.Version.{interfaceNumber};
 use calls::ChoiceAnswer;
 use calls::CompareAnswer;
 use calls::FactsAnswer;
@@ -25,6 +26,9 @@ use calls::PlanAnswer;
 use calls::VerticesAnswer;
 use reading::Refusal;
 use sets::ArticleSet;
+
+// The number of this interface, which goes up whenever it changes: KITCHEN_VERSION of the header.
+const VERSION: u32 = 2;
 
 // An answer: two words, and the status 0.
 fn answered(out: &mut [u64; 2], a: u64, b: u64) -> u32
@@ -171,4 +175,14 @@ pub extern "C" fn kitchen_compare(first: &[u8], second: &[u8], out: &mut [u64; 2
         CompareAnswer::Unlike => answered(out, 0, 0),
         CompareAnswer::Refused(refusal) => refused(out, refusal),
     }
+}
+
+// ---- the interface itself
+
+// The number of the interface that was built, for a caller to compare with that of its header.
+#[no_mangle]
+pub extern "C" fn kitchen_version() -> u32
+    ensures { λ r. ⌜ r ≡ interfaceNumber ⌝ }
+{
+    VERSION
 }
