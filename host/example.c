@@ -5,6 +5,8 @@
  *     tools/job write jobs/kitchen.txt -o target/kitchen.job
  *     target/example target/kitchen.job
  *
+ * Where the library is there already, in lib/, the first line falls away, and lib/ stands for target/lib/.
+ *
  * Status: 1 if a file was refused or could not be read; else 3 if one has no kitchen or no plan; else 0. 2 is misuse.
  */
 #include <inttypes.h>

@@ -7,7 +7,9 @@
  *
  * which makes target/lib/libkitchen.a, an archive to link, and target/lib/libkitchen.so, a shared library for languages
  * that load one; its soname is libkitchen.so.2. `make install` puts both and this header where your system has such
- * things. A program in C that chooses, from a job file on standard input, is built by
+ * things, and in the folder that `make dist` packs they stand in lib/.
+ *
+ * A program in C that chooses, from a job file on standard input, is built by
  * `cc -I include first.c target/lib/libkitchen.a -o first` and is tried by
  * `tools/job write jobs/kitchen.txt | ./first`. Its status is 3 where there is no such kitchen, and 1 where the file is
  * refused:
