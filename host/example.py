@@ -47,8 +47,9 @@ def main(paths):
         except kitchen.Refused as refusal:
             status, lines = 1, [str(refusal)]
         except OSError as trouble:
-            status, lines = 1, [f"{path}: {trouble.strerror}"]
-        print(*lines, sep="\n")
+            status, lines = 1, []
+            print(f"{path}: {trouble.strerror}", file=sys.stderr)
+        print("".join(line + "\n" for line in lines), end="")
         statuses.add(status)
     return 1 if 1 in statuses else max(statuses)
 

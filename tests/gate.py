@@ -316,10 +316,12 @@ def example(command):
 
 def hosts():
     """The C example and the Python example print what is stored of the sample jobs, and end with the status that fits."""
-    archive, shared = built_library()
+    archive, _ = built_library()
     run(["cc", "-std=c99", *STRICT, "host/example.c", archive, "-o", "target/example"])
-    run(["target/example"], status=2)
-    return sum(example(command) for command in (["target/example"], [sys.executable, "-B", "host/example.py", shared]))
+    commands = (["target/example"], [sys.executable, "-B", "host/example.py"])
+    for command in commands:
+        run(command, status=2)
+    return sum(map(example, commands))
 
 
 def as_cpp():
@@ -421,7 +423,11 @@ def dist():
     demand(wanted <= set(files_in(folder)), f"the tarball lacks {wanted - set(files_in(folder))}")
     answers_f(folder / "bin" / "kitchen")
     run(["cc", "-std=c99", f"-I{folder}/include", f"{folder}/host/example.c", f"{folder}/lib/libkitchen.a", "-o", "target/example_unpacked"])
-    return len(wanted) + example(["target/example_unpacked"])
+    shown = run([f"{folder}/show", f"{folder}/jobs/A.txt"])
+    demand(shown.startswith("A kitchen of 1 article "), f"./show of the tarball tells of A: {shown}")
+    told = run([f"{folder}/tools/job", "ask", "--next", "2", f"{folder}/jobs/A.txt"])
+    demand("Further kitchen 2" in told, f"tools/job of the tarball tells of A: {told}")
+    return len(wanted) + 2 + example(["target/example_unpacked"])
 
 
 def beside():
