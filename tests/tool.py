@@ -1002,11 +1002,11 @@ def plan_rules():
             same = keeps(asking.plan_answer, mine, f"rounds {len(rounds)}\n{lines}")
             equal(same, found, f"{rounds} as they are printed, for {job}")
             kept, refused = kept + found, refused + (not found)
-        single = rules.found_plan(mine, job.horizon)
-        within = single is not None and len(single) <= job.horizon and second.is_plan(job, [{a} for a in single])
-        check(single is None or within, f"{single}, one a round, for {job}")
-        check(fewest is not None or single is None, f"there is no plan for {job}, and {single} was found")
-        check(keeps(rules.try_no_plan, mine, job.horizon) == (single is None), f"that there is none for {job}")
+        short = rules.found_plan(mine, job.horizon)
+        within = short is not None and len(short) <= job.horizon and second.is_plan(job, list(map(set, short)))
+        check(short is None or within, f"{short} for {job}")
+        check(fewest is not None or short is None, f"there is no plan for {job}, and {short} was found")
+        check(keeps(rules.try_no_plan, mine, job.horizon) == (short is None), f"that there is none for {job}")
         holds = set(range(job.facts)) & job.start
         for steps in ({a} for a in range(len(job.steps))):
             equal(rules.after(mine, holds, steps), second.after(job, holds, steps), f"the facts after {steps} of {job}")
