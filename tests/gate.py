@@ -33,8 +33,8 @@ def edits():
 
 
 def verdict(name):
-    """The last line of a crate's check: `logic=proved functions=.. axioms=..`."""
-    log = ROOT / "target" / "log" / f"{name}.out"
+    """The last line of a crate's check: `logic=proved functions=.. axioms=..`. rt keeps it until it proves the crate again."""
+    log = ROOT / "target" / "log" / f"{name}.say"
     demand(log.exists(), f"{log} is missing")
     lines = [line for line in log.read_text().splitlines() if line.startswith("logic=")]
     demand(lines, f"{log} has no verdict")

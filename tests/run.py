@@ -147,8 +147,8 @@ def arguments(names):
         description="Runs the checks of tests/gate.py. Status 0: none failed; 1: some did; 2: bad usage, and nothing was done.\n"
         "Without arguments it runs all, from nothing: target/ is removed, and everything is proved again.\n"
         "The last line is 'N passed, M failed'.",
-        epilog="A check that is named looks at what is built in target/. Only prove_and_run removes it;\n"
-        "'rt check NAME' builds one program, 'rt must-fail NAME' tries the edits of one crate.",
+        epilog="A check that is named looks at what is built in target/, and only prove_and_run removes that.\n"
+        "'rt check' proves and builds what has changed; docs/CHANGING.md says which check looks at what.",
     )
     parser.add_argument("check", nargs="*", metavar="CHECK", help="run these checks alone")
     parser.add_argument("--list", action="store_true", help="list the checks, each with what it sees, and run none")
