@@ -1,12 +1,10 @@
 """The checks of the gate, one function each. Called by ./test in the repository's root; docs/ARCHITECTURE.md says what each is for.
 
-A check returns how many things it saw pass, and raises Failed with the reason where one did not.
-A check that finds nothing to look at fails: one that looked at nothing has shown nothing.
+A check returns how many things it saw pass, and raises Failed with the reason where one did not; its docstring is what
+`./test --list` says of it. One that finds nothing to look at fails: it has shown nothing. tests/run.py runs them.
 """
 import ctypes
 import functools
-import hashlib
-import os
 import pathlib
 import re
 import resource
@@ -16,18 +14,11 @@ import subprocess
 import sys
 import time
 
+from run import Failed, RtRun, demand, main
+
 ROOT = pathlib.Path(".")
 # A refusal that only says that the proof file no longer has the code's shape: it shows nothing about the contract.
 LOST_SHAPE = re.compile(r"has no `Need-|has no field")
-
-
-class Failed(Exception):
-    pass
-
-
-def demand(condition, reason):
-    if not condition:
-        raise Failed(reason)
 
 
 def crates():
@@ -45,8 +36,8 @@ def edits():
 
 
 def verdict(name):
-    """The last line of a crate's check: `logic=proved functions=.. axioms=..`."""
-    log = ROOT / "target" / "log" / f"{name}.out"
+    """The last line of a crate's check: `logic=proved functions=.. axioms=..`. rt keeps it until it proves the crate again."""
+    log = ROOT / "target" / "log" / f"{name}.say"
     demand(log.exists(), f"{log} is missing")
     lines = [line for line in log.read_text().splitlines() if line.startswith("logic=")]
     demand(lines, f"{log} has no verdict")
@@ -58,15 +49,20 @@ def verdict(name):
 
 def prove_and_run():
     """rt ci, from nothing: every crate proved, every must-fail edit refused, every program's output as stored."""
-    run = subprocess.Popen(["rt", "ci"], stdin=subprocess.DEVNULL, stdout=subprocess.PIPE, stderr=subprocess.STDOUT, text=True)
-    last = ""
-    for line in run.stdout:
-        print(line, end="", flush=True)
-        last = line.strip() or last
-    status = run.wait()
-    counted = re.fullmatch(r"([1-9][0-9]*) passed, 0 failed", last)
-    demand(status == 0, f"rt ci ended with status {status}")
-    demand(counted, f"rt ci's last line is '{last}'")
+    strays = [str(path) for path in (ROOT / "crates").glob("*/must-fail/*") if path.suffix != ".edit"]
+    demand(not strays, "rt tries no edit of this name: " + ", ".join(strays))
+    there = {"proved": crates(), "must-fail": [f"{edit.parts[-3]}/{edit.stem}" for edit in edits()], "ran": programs()}
+    rt = RtRun(["rt", "ci"], sum(map(len, there.values())), ROOT / "target" / "test.log")
+    try:
+        demand(rt.status == 0, f"rt ci ended with status {rt.status}; target/test.log has what it said")
+        counted = re.fullmatch(r"([1-9][0-9]*) passed, 0 failed", rt.last_line())
+        demand(counted, f"rt ci's last line is '{rt.last_line()}'")
+        for kind, names in there.items():
+            demand(names and sorted(rt.steps[kind]) == sorted(names), f"rt says '{kind}' of {rt.steps[kind]}, and there are {names}")
+        demand(int(counted[1]) == len(crates()) + len(edits()), f"rt counts {counted[1]}, and there are {len(crates())} crates and {len(edits())} edits")
+    except Failed:
+        print(rt.to_read(), end="", flush=True)
+        raise
     return int(counted[1])
 
 
@@ -87,7 +83,7 @@ def refused_for_a_fact():
 
 
 def layout():
-    """rt fmt --check."""
+    """Every file of Rattle is in the layout of rt fmt (rt fmt --check)."""
     run = subprocess.run(["rt", "fmt", "--check"], stdin=subprocess.DEVNULL, capture_output=True, text=True)
     demand(run.returncode == 0, "rt fmt --check: " + (run.stdout + run.stderr).strip())
     return 1
@@ -455,9 +451,37 @@ def faults():
     return 6
 
 
+def checks_of(script):
+    """How many checks a script of tests/ made; all but its last line is printed."""
+    *lines, last = run([sys.executable, "-B", f"tests/{script}.py"]).splitlines()
+    print("".join(line + "\n" for line in lines), end="", flush=True)
+    return int(re.fullmatch(r"(\d+) checks", last)[1])
+
+
 def tool():
-    """tests/tool.py: job texts are written and read, and faults are named by line."""
-    return int(re.search(r"(\d+) checks", run([sys.executable, "-B", "tests/tool.py"]))[1])
+    """tests/tool.py: job texts are written and read, faults are named by line, what cannot be an answer is not taken for one."""
+    return checks_of("tool")
+
+
+def showroom():
+    """tests/showroom.py: what tools/job and host/kitchen.py answer, beside the second program, brute force and lying stand-ins."""
+    built_library()
+    return checks_of("showroom")
+
+
+def showroom_faults():
+    """Each mistake that tests/showroom.py plants in the tool on purpose is found."""
+    built_library()
+    planted = re.findall(r"^    (\d+): ", (ROOT / "tests" / "showroom.py").read_text().partition("\nFAULTS = {\n")[2].partition("\n}")[0], re.M)
+    for fault in planted:
+        printed = run([sys.executable, "-B", "tests/showroom.py", "--fault", fault], status=1)
+        print(f"fault {fault}: {printed.splitlines()[0]}", flush=True)
+    return len(planted)
+
+
+def page():
+    """tests/page.py: pages are well formed, load nothing, and say what advise says."""
+    return checks_of("page")
 
 
 def small_stack():
@@ -470,47 +494,17 @@ def small_stack():
     return len(run.stdout.splitlines())
 
 
-def snapshot():
-    """What stands in the tree beside target/ and .git/."""
-    seen = {}
-    for base, folders, names in os.walk(ROOT):
-        folders[:] = [f for f in folders if os.path.join(base, f) not in ("./target", "./.git")]
-        for name in names:
-            path = os.path.join(base, name)
-            seen[path] = hashlib.sha256(open(path, "rb").read()).hexdigest()
-    return seen
+def runner():
+    """tests/runner.py: ./test and ./bench touch nothing where they are asked wrongly or for help, and what fails is counted."""
+    return checks_of("runner")
 
 
-CHECKS = [prove_and_run, refused_for_a_fact, layout, nothing_foreign, assumptions_as_stated, trace, documents, second_program, kitchen_prints, small_stack, header, hosts, beside, faults, tool]
-# Pairs of a check and a further tool that it needs.
+CHECKS = [
+    *(prove_and_run, refused_for_a_fact, layout, nothing_foreign, assumptions_as_stated, trace, documents, second_program),
+    *(kitchen_prints, small_stack, header, hosts, beside, faults, tool, showroom, showroom_faults, page, runner),
+]
+# Pairs of a check and a further tool that it needs. They are run where the tool is there, and counted apart.
 EXTRA = [(as_cpp, "c++"), (rust, "rustc"), (installed, "make"), (dist, "make")]
 
-
-def main():
-    before = snapshot()
-
-    def leaves_the_tree_clean():
-        """The gate itself writes nothing beside target/."""
-        after = snapshot()
-        changed = sorted(path for path in before.keys() | after.keys() if before.get(path) != after.get(path))
-        demand(not changed, "the gate changed " + ", ".join(changed))
-        return len(before)
-
-    passed = failed = 0
-    for check in [*CHECKS, leaves_the_tree_clean]:
-        try:
-            seen = check()
-        except Failed as reason:
-            failed += 1
-            print(f"FAILED {check.__name__}: {reason}", flush=True)
-        except Exception as trouble:  # a check that breaks has not passed
-            failed += 1
-            print(f"FAILED {check.__name__}: {type(trouble).__name__}: {trouble}", flush=True)
-        else:
-            passed += seen if check is prove_and_run else 1
-            print(f"ok {check.__name__}: {seen}", flush=True)
-    print(f"{passed} passed, {failed} failed")
-    return 1 if failed else 0
-
-
-sys.exit(main())
+if __name__ == "__main__":
+    sys.exit(main(CHECKS, EXTRA, each=prove_and_run))

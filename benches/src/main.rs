@@ -22,7 +22,8 @@ use table::{Figures, Rival, Time, RIVALS};
 
 const SEED: u64 = 20_071_108;
 
-const USAGE: &str = "usage: bench [--family NAME] [--no-peers] [--peers-limit SECONDS] [--quick] [--growth]";
+/// The script ./bench looks at these words first and says what each means; its --install-peers does not come here.
+const USAGE: &str = "usage: bench [--family NAME] [--quick] [--growth] [--no-peers] [--peers-limit SECONDS]";
 
 struct Options {
     /// Only families whose name has this part.
@@ -226,6 +227,10 @@ fn main() -> ExitCode {
         eprintln!("{USAGE}");
         return ExitCode::from(2);
     };
+    if !families::all(SEED).iter().any(|family| family.name.contains(&options.family)) {
+        eprintln!("bench: no family has '{}' in its name", options.family);
+        return ExitCode::from(2);
+    }
     let faults = run(&options);
     for fault in &faults {
         println!("{fault}");
