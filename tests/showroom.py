@@ -21,7 +21,7 @@ import subprocess
 import sys
 import tempfile
 from collections import Counter
-from itertools import combinations
+from itertools import combinations, islice
 
 sys.dont_write_bytecode = True
 ROOT = pathlib.Path(__file__).resolve().parent.parent
@@ -33,6 +33,7 @@ import kitchen  # noqa: E402
 import reader  # noqa: E402
 import rules  # noqa: E402
 from showroom import advising, asking, commands, telling  # noqa: E402
+from showroom import rules as trying  # noqa: E402
 from showroom.files import job_text  # noqa: E402
 from showroom.texts import stated  # noqa: E402
 
@@ -42,6 +43,7 @@ LIBRARY = ROOT / "target" / "lib" / "libkitchen.so"
 SAMPLES = sorted((ROOT / "jobs").glob("*.txt"))
 ANSWERS = ("No such", "A kitchen of", "A plan of", "needs no article", "takes no round")
 MOST_SHOWN = 10  # failures of a section
+MOST_SELECTIONS = 2**10  # more than any job has whose selections are all looked at
 
 checks = 0
 failures = []
@@ -351,7 +353,7 @@ def same_name(tally, folder):
 # ---- statuses
 
 FAULTY = b"choice\nwishes: a\norder: b\narticle X\n wishes: a\n"
-SHORT = (ROOT / "jobs" / "fitting.txt").read_bytes().replace(b"horizon: 10", b"horizon: 7")
+SHORT = (ROOT / "jobs" / "F.txt").read_bytes().replace(b"horizon: 3", b"horizon: 1")  # has no plan
 
 
 def sample(name):
@@ -429,7 +431,7 @@ def advise_statuses(tally, faulty, missing, short):
         check(status != 1 or str(path) in errors, f"advise {path.name}: what is wrong\n{errors}")
         tally["advised"] += 1
     _, output, _ = ran([TOOL, "advise", short])
-    check("A horizon of 8 rounds would do, and none below it." in output, output)
+    check("A horizon of 2 rounds would do, and none below it." in output, output)
 
 
 def json_lines(tally, faulty, missing, short):
@@ -481,14 +483,15 @@ def orders(tally, folder):
     head, rest = re.split(r"(?<=\n)order:", text)[0], re.split(r"\n\n", text, maxsplit=1)[1]
     names = [name.decode() for name in stated(text.encode()).names]
     path = folder / "ordered.txt"
-    for _ in range(24):
+    for number in range(24):
         order = ", ".join(draw.sample(names, draw.randrange(6)))
         path.write_text(f"{head}order: {order}\n\n{rest}")
         direct, given = called("ask", path), called("ask", "--order", order, sample("kitchen"))
         equal(given[0], direct[0], f"the status with --order {order!r}")
         expected = direct[1].replace(f"advise {path}`", f"advise {sample('kitchen')} --order {shlex.quote(order)}`")
         equal(given[1], expected, f"--order {order!r}")
-        equal(called("advise", "--order", order, sample("kitchen")), called("advise", path), f"advise --order {order!r}")
+        if number % 4 == 0:
+            equal(called("advise", "--order", order, sample("kitchen")), called("advise", path), f"advise --order {order!r}")
         tally["orders without a kitchen" if given[0] else "orders with a kitchen"] += 1
         tally["orders"] += 1
     status, output, errors = called("ask", "--order", "bogus", sample("kitchen"))
@@ -614,7 +617,8 @@ def honest(tally, tree, path):
 
 def lies(tally, tree, path, text, right, others):
     own = plan_lies(right) if right.startswith(b"rounds") else choice_lies(right) if right.startswith(b"chosen") else []
-    found = [output for output in dict.fromkeys([*own, *lies_of_any(right), *others]) if output != right]
+    any_time = [] if text.stem in ("A", "F") else lies_of_any(right)
+    found = [output for output in dict.fromkeys([*own, *any_time, *others]) if output != right]
     for number, output in enumerate(found):
         says(path, output)
         label = f"{output[:120]!r}"
@@ -847,8 +851,10 @@ def which_horizon(tally, text, found, label):
 
 
 def as_lines(tally, folder, text, answer, expected, number, label):
-    """The advice stands behind the answer; by the command, too, now and then."""
+    """The advice stands behind the answer: now and then it is put into words, in turn here and by the command."""
     answered = telling.told(text, answer)
+    if number % 3:
+        return
     if number % 6:
         lines, status = advising.advised(text, answer), commands.status_of(answer)
     else:
@@ -1016,7 +1022,7 @@ class Beside:
 
     def selections(self, file, floor=0):
         second = lambda: [s for s in rules.selections(rules.read(file, (reader.CHOICE,))) if rules.number(s) >= floor]
-        ours = lambda: [answer.articles for answer in self.ours.selections(file, floor)]
+        ours = lambda: [answer.articles for answer in islice(self.ours.selections(file, floor), MOST_SELECTIONS)]
         self.same(f"selections {file.hex()}, {floor}", ours, second)
 
     def plan(self, file):
@@ -1201,7 +1207,7 @@ FAULTS = {
     3: ("emptied empties nothing", advising, "emptied", lambda job, out: job, "advise"),
     4: ("further skips one", asking, "further", skipping, "next"),
     5: ("no set aside is tried", asking, "try_aside", lambda job, aside: None, "stand_in"),
-    6: ("no plan is tried to be shorter", asking, "try_plan", lambda job, rounds: None, "stand_in"),
+    6: ("no shorter plan is looked for", trying, "found_plan", lambda job, most: None, "stand_in"),
     7: ("every answer has status 0", commands, "status_of", lambda answer: 0, "statuses"),
     8: ("all wishes of an article are told, not only those of the order", telling, "fulfilled",
         lambda text, number: text.job.records[number].sets[0], "drawn"),
