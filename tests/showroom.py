@@ -43,7 +43,7 @@ LIBRARY = ROOT / "target" / "lib" / "libkitchen.so"
 SAMPLES = sorted((ROOT / "jobs").glob("*.txt"))
 ANSWERS = ("No such", "A kitchen of", "A plan of", "needs no article", "takes no round")
 MOST_SHOWN = 10  # failures of a section
-MOST_SELECTIONS = 2**10  # more than any job has whose selections are all looked at
+MOST_SELECTIONS = 2**6 + 1  # more than any job has whose selections are all looked at
 
 checks = 0
 failures = []
@@ -520,6 +520,7 @@ def right_output(file):
 
 
 def numbered(rounds):
+    rounds = list(rounds)
     lines = [f"{number}:" + "".join(f" {step}" for step in steps) for number, steps in enumerate(rounds, 1)]
     return "\n".join([f"rounds {len(rounds)}", *lines, ""]).encode()
 
@@ -687,7 +688,10 @@ def unusable_programs(tally, tree, path):
 # ---- drawn jobs beside the second program
 
 
-@section("drawn", "kitchens", "no kitchens", "no rounds", "plans", "long plans", "no plans", "set aside", "through the command line")
+@section(
+    "drawn", "kitchens", "no kitchens", "no rounds", "plans", "long plans", "no plans", "set aside", "through the command line",
+    "other selections not taken", "other plans taken", "other plans not taken"
+)  # fmt: skip
 def drawn(tally, folder):
     draw = random.Random(20261116)
     jobs = [drawn_choice(draw, 8, 7) for _ in range(220)] + [tight_choice(draw, 8, 6) for _ in range(80)]
@@ -707,9 +711,57 @@ def drawn(tally, folder):
             status, output, _ = ran([TOOL, "ask", path]) if number % 32 == 0 else called("ask", path)
             tally["through the command line"] += 1
         told_as_second(text, output, status, f"drawn {number}, {kitchen.written(job).hex()}")
+        other_answers(tally, job, draw, f"drawn {number}, {kitchen.written(job).hex()}")
         tally[outcome(output)] += 1
         tally["long plans"] += outcome(output) == "plans" and len(rows(output)) > 3
         tally["set aside"] += "Set aside at once" in output
+
+
+def other_answers(tally, job, draw, label):
+    """Of all that could be printed only the smallest selection, or a plan of the fewest rounds, is taken for an answer."""
+    if job.kind is kitchen.CHOICE:
+        return other_choices(tally, job, draw, label)
+    fewest = second_count(job)
+    equal(accepted(asking.plan_answer, job, "refused 15 at 0\n"), fewest is None, f"{label}: no plan")
+    equal(trying.found_plan(job, job.horizon) is None, fewest is None, f"{label}: whether a search of all rounds finds a plan")
+    for rounds in drawn_rounds(job, draw, fewest):
+        good = len(rounds) == fewest and all(rounds) and rules.is_plan(reader.read(kitchen.written(job)), rounds)
+        equal(accepted(asking.plan_answer, job, numbered(map(sorted, rounds)).decode()), good, f"{label}: {rounds} as the plan")
+        tally["other plans taken" if good else "other plans not taken"] += 1
+
+
+def other_choices(tally, job, draw, label):
+    answer, n = second_choice(job), len(job.records)
+    equal(accepted(asking.choice_answer, job, "refused 14 at 0\n"), answer is None, f"{label}: no selection")
+    kitchens = [rules.number(chosen) for chosen in covering(clash_free(job), job.sets[0])]
+    numbers = draw.sample(kitchens, min(8, len(kitchens))) + [draw.randrange(2**n) for _ in range(4)]
+    _, aside = answer or (set(), draws.some(draw, n, 0.3))
+    for number in numbers + ([rules.number(answer[0])] if answer else []):
+        for out in (aside, draws.some(draw, n, 0.2)):
+            output = f"chosen{rules.shown(rules.of(number))}\naside{rules.shown(out)}\n"
+            good = answer is not None and [rules.of(number), out] == answer
+            equal(accepted(asking.choice_answer, job, output), good, f"{label}: {output!r}")
+            tally["other selections not taken"] += number in kitchens and not good
+
+
+def drawn_rounds(job, draw, fewest):
+    """Rounds that can be done, as many as needed, one more or one less; the goal may hold then or not."""
+    state = reader.read(kitchen.written(job))
+    for _ in range(12):
+        holds, found = set(state.start), []
+        for _ in range((fewest or 0) + draw.choice([-1, 0, 0, 1, 1])):
+            found.append(draw.choice([steps for steps in rules.rounds(state, holds) if steps] or [set()]))
+            holds = rules.after(state, holds, found[-1])
+        yield found
+
+
+def accepted(action, job, output):
+    """Whether an output is taken for an answer."""
+    try:
+        action(job, output)
+    except trying.Broken:
+        return False
+    return True
 
 
 def outcome(output):
@@ -1135,11 +1187,13 @@ def past_the_words(tally, library):
     a, f, step, article = reader.A, reader.F, kitchen.step, kitchen.article
     for label, action in {
         "floor": lambda: library.choose(a, 2**64), "floor below 0": lambda: library.choose(a, -1),
-        "floor of selections": lambda: list(library.selections(a, 2**64)),
+        "floor of selections": lambda: next(library.selections(a, 2**64)),
         "goal": lambda: library.choose(a, goals=[{64}]), "second goal": lambda: library.choose(a, goals=[{0}, {70}]),
         "live": lambda: library.filter_pass(a, {64}, {0}), "goal of a pass": lambda: library.filter_pass(a, {0}, {64}),
         "group": lambda: library.choose(a, groups=[0, 0, 256]), "group below 0": lambda: library.filter_pass(a, {0}, {0}, [-1, 0, 0]),
-        "fact layer": lambda: library.fact_layer(f, 2**64), "round layer": lambda: library.round_layer(f, 2**65 + 1),
+        "a file as text": lambda: library.plan(f.decode("latin-1")), "no file": lambda: library.plan(7), "no choice": lambda: library.choose(None),
+        "an array": lambda: library.plan(bytearray(f)), "no second file": lambda: library.alike(a, 7), "a name in no file": lambda: library.name(7, 0),
+        "a name that is a number": lambda: library.find(a, 5), "fact layer": lambda: library.fact_layer(f, 2**64), "round layer": lambda: library.round_layer(f, 2**65 + 1),
         "layer below 0": lambda: library.fact_layer(f, -1), "name": lambda: library.name(a, 2**64), "name below 0": lambda: library.name(a, -1),
         "no library": lambda: kitchen.Library(ROOT / "missing.so"), "no library of ours": lambda: kitchen.Library(ROOT / "README.md"),
         "65 articles": lambda: kitchen.choice(0, (), [article()] * 65), "65 wishes": lambda: kitchen.choice(65, (), []),
