@@ -21,6 +21,7 @@ import subprocess
 import sys
 import tempfile
 from collections import Counter
+from concurrent.futures import ThreadPoolExecutor
 from itertools import combinations, islice
 
 sys.dont_write_bytecode = True
@@ -307,7 +308,8 @@ def readme(tally, folder):
     before, rest = snapshot(), readme_command()
     status, output, errors = ran(["sh", "-c", rest])
     paths = rest.split()[1:]
-    check(status == 0 and not errors and len(paths) == 2, f"{rest}: status {status}, {errors}")
+    check((status, errors) == (0, ""), f"{rest}: {status}\n{output}{errors}")
+    check("A kitchen of" in output and "A plan of" in output, f"{rest} tells of a kitchen and of a plan\n{output}")
     for path, part in zip(paths, parts(output, paths)):
         told_as_second(stated((ROOT / path).read_bytes()), part, 0, f"{rest}, {path}")
         tally["texts of the command"] += 1
@@ -360,13 +362,14 @@ def sample(name):
     return ROOT / "jobs" / f"{name}.txt"
 
 
-@section("statuses", "asked", "misused", "lines of json", "orders", "from standard input", "advised")
+@section("statuses", "asked", "misused", "unwritable", "lines of json", "orders", "from standard input", "advised")
 def statuses(tally, folder):
     faulty, missing, short = folder / "faulty.txt", folder / "missing.txt", folder / "short.txt"
     faulty.write_bytes(FAULTY)
     short.write_bytes(SHORT)
     ask_statuses(tally, faulty, missing, short)
     misuse(tally)
+    unwritable(tally)
     from_standard_input(tally)
     advise_statuses(tally, faulty, missing, short)
     json_lines(tally, faulty, missing, short)
@@ -398,7 +401,8 @@ def misuse(tally):
         ["ask"], ["bogus"], ["ask", "--bogus", one], ["ask", "--order", "no hood", plan], ["ask", "--next", "1", plan],
         ["ask", "--order", "no hood", one, plan], ["ask", one, plan, "--next", "2"], ["ask", "--next", "0", one],
         ["ask", "--next", "x", one], ["ask", "--next", "-1", one], ["ask", "-", "-"], ["ask", one, "--order"],
-        ["advise"], ["advise", one, plan], ["advise", "--order", "no hood", plan], ["advise", "--json", one], ["ask", "--nex", "1", one],
+        ["ask", "--nex", "1", one], ["advise"], ["advise", one, plan], ["advise", "--order", "no hood", plan],
+        ["advise", "--json", one],
     ):  # fmt: skip
         status, output, errors = called(*arguments)
         equal((status, output), (2, ""), f"{arguments}: misuse, {errors}")
@@ -406,6 +410,15 @@ def misuse(tally):
         tally["misused"] += 1
     equal(ran([TOOL, "ask"])[:2], (2, ""), "misuse through the command line")
     equal(called()[0], 0, "no argument at all is a call for help")
+
+
+def unwritable(tally):
+    """An answer that cannot be written is none."""
+    for command in ("ask jobs/A.txt", "ask jobs/A.txt jobs/F.txt", "ask --json jobs/impossible.txt", "advise jobs/A.txt"):
+        for stream, trouble in ((">/dev/full", "No space left on device"), (">&-", "Bad file descriptor")):
+            status, _, errors = ran(["sh", "-c", f"tools/job {command} {stream}"])
+            equal((status, errors), (1, f"standard output: {trouble}\n"), f"{command} {stream}")
+            tally["unwritable"] += 1
 
 
 def from_standard_input(tally):
@@ -595,7 +608,8 @@ def copied_tree(folder):
 @section("stand_in", "lies asked", "lies advised", "cuts", "lies in a copied tree", "ends", "later lies", "honest")
 def stand_in(tally, folder):
     tree = copied_tree(folder)
-    path, files = tree / "target" / "bin" / "kitchen", {text: kitchen.written(stated(text.read_bytes()).job) for text in SAMPLES}
+    path = tree / "target" / "bin" / "kitchen"
+    files = {text: kitchen.written(stated(text.read_bytes()).job) for text in SAMPLES}
     script(path, f'exec "{KITCHEN}"')
     honest(tally, tree, path)
     for text, file in files.items():
@@ -634,7 +648,7 @@ def cuts(tally, path, text, right):
     """A write that failed on its way, at every byte."""
     for size in range(len(right)):
         says(path, right[:size])
-        no_answer(tally, text, path, f"cut to {size} bytes", ("ask",) if size % 4 else ("ask", "advise"))
+        no_answer(tally, text, path, f"cut to {size} bytes", ("ask", "advise"))
         tally["cuts"] += 1
 
 
@@ -644,8 +658,8 @@ def ends(tally, path, text, right):
     show = ["cat >/dev/null", f'cat "{path.with_name("output")}"']
     for label, lines in {
         "status 1": [*show, "exit 1"], "status 14": [*show, "exit 14"], "killed": [*show, "kill -9 $$"],
-        "ended": [*show, "kill -15 $$"], "noise": [*show, "echo trouble >&2"], "all on standard error": [show[0], show[1] + " >&2"],
-        "unread": ["exit 0"], "unread and failed": ["exit 3"],
+        "ended": [*show, "kill -15 $$"], "noise": [*show, "echo trouble >&2"],
+        "all on standard error": [show[0], show[1] + " >&2"], "unread": ["exit 0"], "unread and failed": ["exit 3"],
     }.items():  # fmt: skip
         script(path, *lines)
         no_answer(tally, text, path, label)
@@ -661,7 +675,8 @@ def later_lies(tally, folder, path, files):
     for text in asks_more:
         path.with_name("file").write_bytes(files[text])
         right = right_output(files[text])
-        for output in {b"", right[:-1], b"refused 14 at 0\n", b"refused 15 at 0\n", b"refused 1 at 0\n", b"chosen\naside\n", right}:
+        refused = [b"refused %d at 0\n" % number for number in (1, 14, 15)]
+        for output in dict.fromkeys([b"", right[:-1], *refused, b"chosen\naside\n", right]):
             path.with_name("output").write_bytes(output)
             keep, file, lie = (f'"{path.with_name(name)}"' for name in ("asked", "file", "output"))
             script(path, f"cat >{keep}", f'if cmp -s {keep} {file}; then "{KITCHEN}" <{keep}; else cat {lie}; fi')
@@ -946,7 +961,9 @@ def further_lines(text, following):
     return found or ["There is no further kitchen."]
 
 
-@section("next", "further kitchens", "fewer than asked for", "no further", "all 64", "command lines", "libraries that are not used")
+@section(
+    "next", "further kitchens", "fewer than asked for", "no further", "all 64", "command lines", "libraries that are not used"
+)
 def next_kitchens(tally, folder):
     draw = random.Random(3)
     for number in range(200):
@@ -1066,7 +1083,8 @@ class Beside:
             job = rules.read(file, (reader.CHOICE,))
             return rules.filter_pass(file, rules.own_groups(job) if groups is None else groups, live, goal)
 
-        self.same(f"pass {file.hex()}, {live}, {goal}, {groups}", lambda: self.ours.filter_pass(file, live, goal, groups), second)
+        label = f"pass {file.hex()}, {live}, {goal}, {groups}"
+        self.same(label, lambda: self.ours.filter_pass(file, live, goal, groups), second)
 
     def partition(self, file):
         second = lambda: bytes(rules.own_groups(rules.read(file, (reader.CHOICE,))))
@@ -1127,8 +1145,9 @@ class Beside:
 
 
 @section(
-    "module", "read", "choose", "pass", "partition", "selections", "plan", "fact", "round", "name", "find", "alike", "unusable", "built",
-    "answers NoSelection", "answers NoPlan", "answers None", *(f"refused {number}" for number in range(1, 14))
+    "module", "read", "choose", "pass", "partition", "selections", "plan", "fact", "round", "name", "find", "alike",
+    "unusable", "built", "answers NoSelection", "answers NoPlan", "answers None",
+    *(f"refused {number}" for number in range(1, 14))
 )  # fmt: skip
 def module(tally, folder):
     draw, beside = random.Random(5), Beside(tally)
@@ -1186,23 +1205,42 @@ def past_the_words(tally, library):
     """No number is cut to 64 bits in silence, no group to a byte, and no job is written that a file cannot state."""
     a, f, step, article = reader.A, reader.F, kitchen.step, kitchen.article
     for label, action in {
-        "floor": lambda: library.choose(a, 2**64), "floor below 0": lambda: library.choose(a, -1),
-        "floor of selections": lambda: next(library.selections(a, 2**64)),
-        "goal": lambda: library.choose(a, goals=[{64}]), "second goal": lambda: library.choose(a, goals=[{0}, {70}]),
-        "live": lambda: library.filter_pass(a, {64}, {0}), "goal of a pass": lambda: library.filter_pass(a, {0}, {64}),
-        "group": lambda: library.choose(a, groups=[0, 0, 256]), "group below 0": lambda: library.filter_pass(a, {0}, {0}, [-1, 0, 0]),
-        "a file as text": lambda: library.plan(f.decode("latin-1")), "no file": lambda: library.plan(7), "no choice": lambda: library.choose(None),
-        "an array": lambda: library.plan(bytearray(f)), "no second file": lambda: library.alike(a, 7), "a name in no file": lambda: library.name(7, 0),
-        "a name that is a number": lambda: library.find(a, 5), "fact layer": lambda: library.fact_layer(f, 2**64), "round layer": lambda: library.round_layer(f, 2**65 + 1),
-        "layer below 0": lambda: library.fact_layer(f, -1), "name": lambda: library.name(a, 2**64), "name below 0": lambda: library.name(a, -1),
-        "no library": lambda: kitchen.Library(ROOT / "missing.so"), "no library of ours": lambda: kitchen.Library(ROOT / "README.md"),
-        "65 articles": lambda: kitchen.choice(0, (), [article()] * 65), "65 wishes": lambda: kitchen.choice(65, (), []),
-        "a wish too high": lambda: kitchen.choice(2, {2}, []), "an article's wish": lambda: kitchen.choice(2, {0}, [article({2})]),
-        "a clash with itself": lambda: kitchen.choice(1, (), [article((), {0})]), "no such clash": lambda: kitchen.choice(1, (), [article((), {1})]),
-        "a long name": lambda: kitchen.choice(1, (), [article(name="ä" * 17)]), "33 steps": lambda: kitchen.fitting(0, 0, (), (), [step()] * 33),
-        "33 facts": lambda: kitchen.fitting(33, 0, (), (), []), "17 rounds": lambda: kitchen.fitting(0, 17, (), (), []),
-        "a fact below 0": lambda: kitchen.fitting(2, 1, {-1}, (), []), "a fact too high": lambda: kitchen.fitting(2, 1, (), (), [step(takes={2})]),
-    }.items():  # fmt: skip
+        "a floor past the words": lambda: library.choose(a, 2**64),
+        "a floor below 0": lambda: library.choose(a, -1),
+        "a floor of selections": lambda: next(library.selections(a, 2**64)),
+        "a goal": lambda: library.choose(a, goals=[{64}]),
+        "a second goal": lambda: library.choose(a, goals=[{0}, {70}]),
+        "live articles": lambda: library.filter_pass(a, {64}, {0}),
+        "the goal of a pass": lambda: library.filter_pass(a, {0}, {64}),
+        "a group past a byte": lambda: library.choose(a, groups=[0, 0, 256]),
+        "a group below 0": lambda: library.filter_pass(a, {0}, {0}, [-1, 0, 0]),
+        "a fact layer": lambda: library.fact_layer(f, 2**64),
+        "a round layer": lambda: library.round_layer(f, 2**65 + 1),
+        "a layer below 0": lambda: library.fact_layer(f, -1),
+        "the number of a name": lambda: library.name(a, 2**64),
+        "a number below 0": lambda: library.name(a, -1),
+        "a file as text": lambda: library.plan(f.decode("latin-1")),
+        "a number as a file": lambda: library.plan(7),
+        "nothing as a file": lambda: library.choose(None),
+        "an array as a file": lambda: library.plan(bytearray(f)),
+        "a number as the second file": lambda: library.alike(a, 7),
+        "a number as a named file": lambda: library.name(7, 0),
+        "a number as a name": lambda: library.find(a, 5),
+        "no library": lambda: kitchen.Library(ROOT / "missing.so"),
+        "no library of ours": lambda: kitchen.Library(ROOT / "README.md"),
+        "65 articles": lambda: kitchen.choice(0, (), [article()] * 65),
+        "65 wishes": lambda: kitchen.choice(65, (), []),
+        "an order with a wish too high": lambda: kitchen.choice(2, {2}, []),
+        "an article with a wish too high": lambda: kitchen.choice(2, {0}, [article({2})]),
+        "a clash with itself": lambda: kitchen.choice(1, (), [article((), {0})]),
+        "a clash with no article": lambda: kitchen.choice(1, (), [article((), {1})]),
+        "a long name": lambda: kitchen.choice(1, (), [article(name="ä" * 17)]),
+        "33 steps": lambda: kitchen.fitting(0, 0, (), (), [step()] * 33),
+        "33 facts": lambda: kitchen.fitting(33, 0, (), (), []),
+        "17 rounds": lambda: kitchen.fitting(0, 17, (), (), []),
+        "a fact below 0": lambda: kitchen.fitting(2, 1, {-1}, (), []),
+        "a fact too high": lambda: kitchen.fitting(2, 1, (), (), [step(takes={2})]),
+    }.items():
         check(unusable(action), f"{label} is not usable")
         tally["unusable"] += 1
 
@@ -1218,7 +1256,8 @@ def built(tally, draw):
                 articles[one].sets[1].add(other)
         equal(kitchen.written(kitchen.choice(theirs.wishes, theirs.order, articles)), reader.written(theirs), "a choice, built")
         theirs = draws.drawn_fitting(draw)
-        ours = kitchen.fitting(theirs.facts, theirs.horizon, theirs.start, theirs.goal, [kitchen.step(*step) for step in theirs.steps])
+        steps = [kitchen.step(*step) for step in theirs.steps]
+        ours = kitchen.fitting(theirs.facts, theirs.horizon, theirs.start, theirs.goal, steps)
         equal(kitchen.written(ours), reader.written(theirs), "a fitting, built")
         tally["built"] += 2
 
@@ -1240,7 +1279,8 @@ def with_last_wish(job):
     last = max(job.sets[0])
     if last in found.part:
         return found
-    rest = advising.Rest(last, kitchen.Selection(set(), set()), advising.has_selection(advising.ordered(job, job.sets[0] - {last})))
+    enough = advising.has_selection(advising.ordered(job, job.sets[0] - {last}))
+    rest = advising.Rest(last, kitchen.Selection(set(), set()), enough)
     return found._replace(part=found.part | {last}, rests=[*found.rests, rest])
 
 
@@ -1296,6 +1336,22 @@ def run(name):
     print(", ".join(f"{word}: {number}" for word, number in {f"{name} checks": checks - before, **tally}.items()), flush=True)
 
 
+def run_apart(names, fault):
+    """Each section in a process of its own, two at a time."""
+    global checks
+    options = ["--fault", fault] if fault else []
+    with ThreadPoolExecutor(2) as pool:
+        for name, found in zip(names, pool.map(lambda name: ran([sys.executable, "-B", __file__, name, *options]), names)):
+            status, output, errors = found
+            lines = output.splitlines()
+            counted = re.match(r"(\d+) checks", lines[-1] if lines else "")
+            print("\n".join(lines[:-1] if counted else lines), errors, sep="", flush=True)
+            checks += int(counted[1]) if counted else 0
+            if status or not counted:
+                failures.append(name)
+                print(f"FAILED {name}: status {status}", flush=True)
+
+
 def main():
     parser = argparse.ArgumentParser(description="Tests of what tools/job answers.")
     parser.add_argument("sections", nargs="*", metavar="SECTION", help=", ".join(SECTIONS))
@@ -1309,8 +1365,11 @@ def main():
             print(f"FAILED {path} is missing")
             return 1
     place = [plant(given.fault)] if given.fault else list(SECTIONS)
-    for name in given.sections or place:
-        run(name)
+    names = given.sections or place
+    if len(names) == 1:
+        run(names[0])
+    else:
+        run_apart(names, given.fault)
     print(f"{checks} checks" + (f", {len(failures)} failed" if failures else ""))
     return 1 if failures else 0
 
