@@ -282,6 +282,7 @@ def word(number):
 
 
 def group_bytes(groups):
+    groups = list(groups)
     for group in groups:
         if not 0 <= group <= 255:
             raise Unusable(f"{group} is not the number of a group, from 0 to 255")
