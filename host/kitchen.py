@@ -75,7 +75,14 @@ class Unusable(Exception):
 
 
 def named(name):
-    return name.encode() if isinstance(name, str) else bytes(memoryview(name))
+    return name.encode() if isinstance(name, str) else as_bytes(name)
+
+
+def as_bytes(given):
+    """What is given, if it is bytes: text, or a number, would be passed on as something else."""
+    if not isinstance(given, bytes):
+        raise Unusable(f"expected bytes, found {type(given).__name__}")
+    return given
 
 
 def article(wishes=(), clashes=(), name=b""):
@@ -283,6 +290,7 @@ def word(number):
 
 
 def group_bytes(groups):
+    groups = list(groups)
     for group in groups:
         if not 0 <= group <= 255:
             raise Unusable(f"{group} is not the number of a group, from 0 to 255")
@@ -312,22 +320,21 @@ class Library:
         if self.version != VERSION:
             raise Unusable(f"{path} has the interface {self.version}; this module is for {VERSION}")
 
-    def call(self, name, *arguments):
-        """The status and the two words. Bytes and arrays are slices: a pointer and a length."""
+    def call(self, name, file, *arguments):
+        """The status and the two words. A number comes as a word; bytes and arrays are slices: a pointer and a length."""
         passed = []
-        for argument in arguments:
-            if isinstance(argument, int):
-                passed.append(word(argument))
-            else:
-                passed += [argument, ctypes.c_size_t(len(argument))]
+        for argument in (as_bytes(file), *arguments):
+            passed.append(argument)
+            if not isinstance(argument, ctypes.c_uint64):
+                passed.append(ctypes.c_size_t(len(argument)))
         out = (ctypes.c_uint64 * 2)()
         function = getattr(self.library, f"kitchen_{name}")
         function.restype = ctypes.c_uint32
         return function(*passed, out), out[0], out[1]
 
-    def answered(self, name, *arguments):
+    def answered(self, name, file, *arguments):
         """The two words of an answer."""
-        status, first, second = self.call(name, *arguments)
+        status, first, second = self.call(name, file, *arguments)
         if status:
             raise Refused(status, first)
         return first, second
@@ -343,7 +350,7 @@ class Library:
     def filter_pass(self, file, live, goal, groups=None):
         """The live articles that are supported. Without groups our own partition is lent."""
         groups = self.partition(file) if groups is None else group_bytes(groups)
-        return members_of(self.answered("pass", file, groups, number_of(live), number_of(goal))[0])
+        return members_of(self.answered("pass", file, groups, word(number_of(live)), word(number_of(goal)))[0])
 
     def choose(self, file, floor=0, goals=None, groups=None):
         """The selection with the smallest number at or above the floor, with its set aside; or NoSelection.
@@ -353,7 +360,7 @@ class Library:
         groups = self.partition(file) if groups is None else group_bytes(groups)
         goals = own_goals(file) if goals is None else goals
         lent = (ctypes.c_uint64 * len(goals))(*(word(number_of(goal)).value for goal in goals))
-        status, first, second = self.call("choose", file, groups, lent, floor)
+        status, first, second = self.call("choose", file, groups, lent, word(floor))
         if status == NO_SELECTION:
             return NoSelection
         if status:
@@ -383,20 +390,20 @@ class Library:
     def fact_layer(self, file, layer):
         """The facts of a layer, and for each of 32 facts those that it is mutex with."""
         words = (ctypes.c_uint32 * FACT_WORDS)()
-        facts, _ = self.answered("fact_layer", file, layer, words)
+        facts, _ = self.answered("fact_layer", file, word(layer), words)
         return members_of(facts), [members_of(number) for number in words]
 
     def round_layer(self, file, layer):
         """The vertices of a layer (keeper t is t, step a is 32 + a), and for each of 64 those that it is mutex with."""
         words = (ctypes.c_uint64 * ROUND_WORDS)()
-        vertices, _ = self.answered("round_layer", file, layer, words)
+        vertices, _ = self.answered("round_layer", file, word(layer), words)
         return members_of(vertices), [members_of(number) for number in words]
 
     # -- either kind
 
     def name(self, file, number):
         """The name of an article or step, a part of the file's bytes; empty where there is none."""
-        start, length = self.answered("name", file, number)
+        start, length = self.answered("name", file, word(number))
         return file[start : start + length]
 
     def find(self, file, name):
@@ -410,4 +417,4 @@ class Library:
 
     def alike(self, a, b):
         """Whether two choice files agree in all but their names."""
-        return self.answered("compare", a, b)[0] == 1
+        return self.answered("compare", a, as_bytes(b))[0] == 1

@@ -21,7 +21,8 @@ import subprocess
 import sys
 import tempfile
 from collections import Counter
-from itertools import combinations
+from concurrent.futures import ThreadPoolExecutor
+from itertools import combinations, islice
 
 sys.dont_write_bytecode = True
 ROOT = pathlib.Path(__file__).resolve().parent.parent
@@ -33,6 +34,7 @@ import kitchen  # noqa: E402
 import reader  # noqa: E402
 import rules  # noqa: E402
 from showroom import advising, asking, commands, telling  # noqa: E402
+from showroom import rules as trying  # noqa: E402
 from showroom.files import job_text  # noqa: E402
 from showroom.texts import stated  # noqa: E402
 
@@ -42,6 +44,7 @@ LIBRARY = ROOT / "target" / "lib" / "libkitchen.so"
 SAMPLES = sorted((ROOT / "jobs").glob("*.txt"))
 ANSWERS = ("No such", "A kitchen of", "A plan of", "needs no article", "takes no round")
 MOST_SHOWN = 10  # failures of a section
+MOST_SELECTIONS = 2**6 + 1  # more than any job has whose selections are all looked at
 
 checks = 0
 failures = []
@@ -305,7 +308,8 @@ def readme(tally, folder):
     before, rest = snapshot(), readme_command()
     status, output, errors = ran(["sh", "-c", rest])
     paths = rest.split()[1:]
-    check(status == 0 and not errors and len(paths) == 2, f"{rest}: status {status}, {errors}")
+    check((status, errors) == (0, ""), f"{rest}: {status}\n{output}{errors}")
+    check("A kitchen of" in output and "A plan of" in output, f"{rest} tells of a kitchen and of a plan\n{output}")
     for path, part in zip(paths, parts(output, paths)):
         told_as_second(stated((ROOT / path).read_bytes()), part, 0, f"{rest}, {path}")
         tally["texts of the command"] += 1
@@ -351,20 +355,21 @@ def same_name(tally, folder):
 # ---- statuses
 
 FAULTY = b"choice\nwishes: a\norder: b\narticle X\n wishes: a\n"
-SHORT = (ROOT / "jobs" / "fitting.txt").read_bytes().replace(b"horizon: 10", b"horizon: 7")
+SHORT = (ROOT / "jobs" / "F.txt").read_bytes().replace(b"horizon: 3", b"horizon: 1")  # has no plan
 
 
 def sample(name):
     return ROOT / "jobs" / f"{name}.txt"
 
 
-@section("statuses", "asked", "misused", "lines of json", "orders", "from standard input", "advised")
+@section("statuses", "asked", "misused", "unwritable", "lines of json", "orders", "from standard input", "advised")
 def statuses(tally, folder):
     faulty, missing, short = folder / "faulty.txt", folder / "missing.txt", folder / "short.txt"
     faulty.write_bytes(FAULTY)
     short.write_bytes(SHORT)
     ask_statuses(tally, faulty, missing, short)
     misuse(tally)
+    unwritable(tally)
     from_standard_input(tally)
     advise_statuses(tally, faulty, missing, short)
     json_lines(tally, faulty, missing, short)
@@ -396,7 +401,8 @@ def misuse(tally):
         ["ask"], ["bogus"], ["ask", "--bogus", one], ["ask", "--order", "no hood", plan], ["ask", "--next", "1", plan],
         ["ask", "--order", "no hood", one, plan], ["ask", one, plan, "--next", "2"], ["ask", "--next", "0", one],
         ["ask", "--next", "x", one], ["ask", "--next", "-1", one], ["ask", "-", "-"], ["ask", one, "--order"],
-        ["advise"], ["advise", one, plan], ["advise", "--order", "no hood", plan], ["advise", "--json", one], ["ask", "--nex", "1", one],
+        ["ask", "--nex", "1", one], ["advise"], ["advise", one, plan], ["advise", "--order", "no hood", plan],
+        ["advise", "--json", one],
     ):  # fmt: skip
         status, output, errors = called(*arguments)
         equal((status, output), (2, ""), f"{arguments}: misuse, {errors}")
@@ -404,6 +410,15 @@ def misuse(tally):
         tally["misused"] += 1
     equal(ran([TOOL, "ask"])[:2], (2, ""), "misuse through the command line")
     equal(called()[0], 0, "no argument at all is a call for help")
+
+
+def unwritable(tally):
+    """An answer that cannot be written is none."""
+    for command in ("ask jobs/A.txt", "ask jobs/A.txt jobs/F.txt", "ask --json jobs/impossible.txt", "advise jobs/A.txt"):
+        for stream, trouble in ((">/dev/full", "No space left on device"), (">&-", "Bad file descriptor")):
+            status, _, errors = ran(["sh", "-c", f"tools/job {command} {stream}"])
+            equal((status, errors), (1, f"standard output: {trouble}\n"), f"{command} {stream}")
+            tally["unwritable"] += 1
 
 
 def from_standard_input(tally):
@@ -429,7 +444,7 @@ def advise_statuses(tally, faulty, missing, short):
         check(status != 1 or str(path) in errors, f"advise {path.name}: what is wrong\n{errors}")
         tally["advised"] += 1
     _, output, _ = ran([TOOL, "advise", short])
-    check("A horizon of 8 rounds would do, and none below it." in output, output)
+    check("A horizon of 2 rounds would do, and none below it." in output, output)
 
 
 def json_lines(tally, faulty, missing, short):
@@ -481,14 +496,15 @@ def orders(tally, folder):
     head, rest = re.split(r"(?<=\n)order:", text)[0], re.split(r"\n\n", text, maxsplit=1)[1]
     names = [name.decode() for name in stated(text.encode()).names]
     path = folder / "ordered.txt"
-    for _ in range(24):
+    for number in range(24):
         order = ", ".join(draw.sample(names, draw.randrange(6)))
         path.write_text(f"{head}order: {order}\n\n{rest}")
         direct, given = called("ask", path), called("ask", "--order", order, sample("kitchen"))
         equal(given[0], direct[0], f"the status with --order {order!r}")
         expected = direct[1].replace(f"advise {path}`", f"advise {sample('kitchen')} --order {shlex.quote(order)}`")
         equal(given[1], expected, f"--order {order!r}")
-        equal(called("advise", "--order", order, sample("kitchen")), called("advise", path), f"advise --order {order!r}")
+        if number % 4 == 0:
+            equal(called("advise", "--order", order, sample("kitchen")), called("advise", path), f"advise --order {order!r}")
         tally["orders without a kitchen" if given[0] else "orders with a kitchen"] += 1
         tally["orders"] += 1
     status, output, errors = called("ask", "--order", "bogus", sample("kitchen"))
@@ -517,6 +533,7 @@ def right_output(file):
 
 
 def numbered(rounds):
+    rounds = list(rounds)
     lines = [f"{number}:" + "".join(f" {step}" for step in steps) for number, steps in enumerate(rounds, 1)]
     return "\n".join([f"rounds {len(rounds)}", *lines, ""]).encode()
 
@@ -591,7 +608,8 @@ def copied_tree(folder):
 @section("stand_in", "lies asked", "lies advised", "cuts", "lies in a copied tree", "ends", "later lies", "honest")
 def stand_in(tally, folder):
     tree = copied_tree(folder)
-    path, files = tree / "target" / "bin" / "kitchen", {text: kitchen.written(stated(text.read_bytes()).job) for text in SAMPLES}
+    path = tree / "target" / "bin" / "kitchen"
+    files = {text: kitchen.written(stated(text.read_bytes()).job) for text in SAMPLES}
     script(path, f'exec "{KITCHEN}"')
     honest(tally, tree, path)
     for text, file in files.items():
@@ -614,7 +632,8 @@ def honest(tally, tree, path):
 
 def lies(tally, tree, path, text, right, others):
     own = plan_lies(right) if right.startswith(b"rounds") else choice_lies(right) if right.startswith(b"chosen") else []
-    found = [output for output in dict.fromkeys([*own, *lies_of_any(right), *others]) if output != right]
+    any_time = [] if text.stem in ("A", "F") else lies_of_any(right)
+    found = [output for output in dict.fromkeys([*own, *any_time, *others]) if output != right]
     for number, output in enumerate(found):
         says(path, output)
         label = f"{output[:120]!r}"
@@ -629,7 +648,7 @@ def cuts(tally, path, text, right):
     """A write that failed on its way, at every byte."""
     for size in range(len(right)):
         says(path, right[:size])
-        no_answer(tally, text, path, f"cut to {size} bytes", ("ask",) if size % 4 else ("ask", "advise"))
+        no_answer(tally, text, path, f"cut to {size} bytes", ("ask", "advise"))
         tally["cuts"] += 1
 
 
@@ -639,8 +658,8 @@ def ends(tally, path, text, right):
     show = ["cat >/dev/null", f'cat "{path.with_name("output")}"']
     for label, lines in {
         "status 1": [*show, "exit 1"], "status 14": [*show, "exit 14"], "killed": [*show, "kill -9 $$"],
-        "ended": [*show, "kill -15 $$"], "noise": [*show, "echo trouble >&2"], "all on standard error": [show[0], show[1] + " >&2"],
-        "unread": ["exit 0"], "unread and failed": ["exit 3"],
+        "ended": [*show, "kill -15 $$"], "noise": [*show, "echo trouble >&2"],
+        "all on standard error": [show[0], show[1] + " >&2"], "unread": ["exit 0"], "unread and failed": ["exit 3"],
     }.items():  # fmt: skip
         script(path, *lines)
         no_answer(tally, text, path, label)
@@ -656,7 +675,8 @@ def later_lies(tally, folder, path, files):
     for text in asks_more:
         path.with_name("file").write_bytes(files[text])
         right = right_output(files[text])
-        for output in {b"", right[:-1], b"refused 14 at 0\n", b"refused 15 at 0\n", b"refused 1 at 0\n", b"chosen\naside\n", right}:
+        refused = [b"refused %d at 0\n" % number for number in (1, 14, 15)]
+        for output in dict.fromkeys([b"", right[:-1], *refused, b"chosen\naside\n", right]):
             path.with_name("output").write_bytes(output)
             keep, file, lie = (f'"{path.with_name(name)}"' for name in ("asked", "file", "output"))
             script(path, f"cat >{keep}", f'if cmp -s {keep} {file}; then "{KITCHEN}" <{keep}; else cat {lie}; fi')
@@ -683,7 +703,10 @@ def unusable_programs(tally, tree, path):
 # ---- drawn jobs beside the second program
 
 
-@section("drawn", "kitchens", "no kitchens", "no rounds", "plans", "long plans", "no plans", "set aside", "through the command line")
+@section(
+    "drawn", "kitchens", "no kitchens", "no rounds", "plans", "long plans", "no plans", "set aside", "through the command line",
+    "other selections not taken", "other plans taken", "other plans not taken"
+)  # fmt: skip
 def drawn(tally, folder):
     draw = random.Random(20261116)
     jobs = [drawn_choice(draw, 8, 7) for _ in range(220)] + [tight_choice(draw, 8, 6) for _ in range(80)]
@@ -703,9 +726,57 @@ def drawn(tally, folder):
             status, output, _ = ran([TOOL, "ask", path]) if number % 32 == 0 else called("ask", path)
             tally["through the command line"] += 1
         told_as_second(text, output, status, f"drawn {number}, {kitchen.written(job).hex()}")
+        other_answers(tally, job, draw, f"drawn {number}, {kitchen.written(job).hex()}")
         tally[outcome(output)] += 1
         tally["long plans"] += outcome(output) == "plans" and len(rows(output)) > 3
         tally["set aside"] += "Set aside at once" in output
+
+
+def other_answers(tally, job, draw, label):
+    """Of all that could be printed only the smallest selection, or a plan of the fewest rounds, is taken for an answer."""
+    if job.kind is kitchen.CHOICE:
+        return other_choices(tally, job, draw, label)
+    fewest = second_count(job)
+    equal(accepted(asking.plan_answer, job, "refused 15 at 0\n"), fewest is None, f"{label}: no plan")
+    equal(trying.found_plan(job, job.horizon) is None, fewest is None, f"{label}: whether a search of all rounds finds a plan")
+    for rounds in drawn_rounds(job, draw, fewest):
+        good = len(rounds) == fewest and all(rounds) and rules.is_plan(reader.read(kitchen.written(job)), rounds)
+        equal(accepted(asking.plan_answer, job, numbered(map(sorted, rounds)).decode()), good, f"{label}: {rounds} as the plan")
+        tally["other plans taken" if good else "other plans not taken"] += 1
+
+
+def other_choices(tally, job, draw, label):
+    answer, n = second_choice(job), len(job.records)
+    equal(accepted(asking.choice_answer, job, "refused 14 at 0\n"), answer is None, f"{label}: no selection")
+    kitchens = [rules.number(chosen) for chosen in covering(clash_free(job), job.sets[0])]
+    numbers = draw.sample(kitchens, min(8, len(kitchens))) + [draw.randrange(2**n) for _ in range(4)]
+    _, aside = answer or (set(), draws.some(draw, n, 0.3))
+    for number in numbers + ([rules.number(answer[0])] if answer else []):
+        for out in (aside, draws.some(draw, n, 0.2)):
+            output = f"chosen{rules.shown(rules.of(number))}\naside{rules.shown(out)}\n"
+            good = answer is not None and [rules.of(number), out] == answer
+            equal(accepted(asking.choice_answer, job, output), good, f"{label}: {output!r}")
+            tally["other selections not taken"] += number in kitchens and not good
+
+
+def drawn_rounds(job, draw, fewest):
+    """Rounds that can be done, as many as needed, one more or one less; the goal may hold then or not."""
+    state = reader.read(kitchen.written(job))
+    for _ in range(12):
+        holds, found = set(state.start), []
+        for _ in range((fewest or 0) + draw.choice([-1, 0, 0, 1, 1])):
+            found.append(draw.choice([steps for steps in rules.rounds(state, holds) if steps] or [set()]))
+            holds = rules.after(state, holds, found[-1])
+        yield found
+
+
+def accepted(action, job, output):
+    """Whether an output is taken for an answer."""
+    try:
+        action(job, output)
+    except trying.Broken:
+        return False
+    return True
 
 
 def outcome(output):
@@ -847,8 +918,10 @@ def which_horizon(tally, text, found, label):
 
 
 def as_lines(tally, folder, text, answer, expected, number, label):
-    """The advice stands behind the answer; by the command, too, now and then."""
+    """The advice stands behind the answer: now and then it is put into words, in turn here and by the command."""
     answered = telling.told(text, answer)
+    if number % 3:
+        return
     if number % 6:
         lines, status = advising.advised(text, answer), commands.status_of(answer)
     else:
@@ -888,7 +961,9 @@ def further_lines(text, following):
     return found or ["There is no further kitchen."]
 
 
-@section("next", "further kitchens", "fewer than asked for", "no further", "all 64", "command lines", "libraries that are not used")
+@section(
+    "next", "further kitchens", "fewer than asked for", "no further", "all 64", "command lines", "libraries that are not used"
+)
 def next_kitchens(tally, folder):
     draw = random.Random(3)
     for number in range(200):
@@ -1008,7 +1083,8 @@ class Beside:
             job = rules.read(file, (reader.CHOICE,))
             return rules.filter_pass(file, rules.own_groups(job) if groups is None else groups, live, goal)
 
-        self.same(f"pass {file.hex()}, {live}, {goal}, {groups}", lambda: self.ours.filter_pass(file, live, goal, groups), second)
+        label = f"pass {file.hex()}, {live}, {goal}, {groups}"
+        self.same(label, lambda: self.ours.filter_pass(file, live, goal, groups), second)
 
     def partition(self, file):
         second = lambda: bytes(rules.own_groups(rules.read(file, (reader.CHOICE,))))
@@ -1016,7 +1092,7 @@ class Beside:
 
     def selections(self, file, floor=0):
         second = lambda: [s for s in rules.selections(rules.read(file, (reader.CHOICE,))) if rules.number(s) >= floor]
-        ours = lambda: [answer.articles for answer in self.ours.selections(file, floor)]
+        ours = lambda: [answer.articles for answer in islice(self.ours.selections(file, floor), MOST_SELECTIONS)]
         self.same(f"selections {file.hex()}, {floor}", ours, second)
 
     def plan(self, file):
@@ -1069,8 +1145,9 @@ class Beside:
 
 
 @section(
-    "module", "read", "choose", "pass", "partition", "selections", "plan", "fact", "round", "name", "find", "alike", "unusable", "built",
-    "answers NoSelection", "answers NoPlan", "answers None", *(f"refused {number}" for number in range(1, 14))
+    "module", "read", "choose", "pass", "partition", "selections", "plan", "fact", "round", "name", "find", "alike",
+    "unusable", "built", "answers NoSelection", "answers NoPlan", "answers None",
+    *(f"refused {number}" for number in range(1, 14))
 )  # fmt: skip
 def module(tally, folder):
     draw, beside = random.Random(5), Beside(tally)
@@ -1128,21 +1205,42 @@ def past_the_words(tally, library):
     """No number is cut to 64 bits in silence, no group to a byte, and no job is written that a file cannot state."""
     a, f, step, article = reader.A, reader.F, kitchen.step, kitchen.article
     for label, action in {
-        "floor": lambda: library.choose(a, 2**64), "floor below 0": lambda: library.choose(a, -1),
-        "floor of selections": lambda: list(library.selections(a, 2**64)),
-        "goal": lambda: library.choose(a, goals=[{64}]), "second goal": lambda: library.choose(a, goals=[{0}, {70}]),
-        "live": lambda: library.filter_pass(a, {64}, {0}), "goal of a pass": lambda: library.filter_pass(a, {0}, {64}),
-        "group": lambda: library.choose(a, groups=[0, 0, 256]), "group below 0": lambda: library.filter_pass(a, {0}, {0}, [-1, 0, 0]),
-        "fact layer": lambda: library.fact_layer(f, 2**64), "round layer": lambda: library.round_layer(f, 2**65 + 1),
-        "layer below 0": lambda: library.fact_layer(f, -1), "name": lambda: library.name(a, 2**64), "name below 0": lambda: library.name(a, -1),
-        "no library": lambda: kitchen.Library(ROOT / "missing.so"), "no library of ours": lambda: kitchen.Library(ROOT / "README.md"),
-        "65 articles": lambda: kitchen.choice(0, (), [article()] * 65), "65 wishes": lambda: kitchen.choice(65, (), []),
-        "a wish too high": lambda: kitchen.choice(2, {2}, []), "an article's wish": lambda: kitchen.choice(2, {0}, [article({2})]),
-        "a clash with itself": lambda: kitchen.choice(1, (), [article((), {0})]), "no such clash": lambda: kitchen.choice(1, (), [article((), {1})]),
-        "a long name": lambda: kitchen.choice(1, (), [article(name="ä" * 17)]), "33 steps": lambda: kitchen.fitting(0, 0, (), (), [step()] * 33),
-        "33 facts": lambda: kitchen.fitting(33, 0, (), (), []), "17 rounds": lambda: kitchen.fitting(0, 17, (), (), []),
-        "a fact below 0": lambda: kitchen.fitting(2, 1, {-1}, (), []), "a fact too high": lambda: kitchen.fitting(2, 1, (), (), [step(takes={2})]),
-    }.items():  # fmt: skip
+        "a floor past the words": lambda: library.choose(a, 2**64),
+        "a floor below 0": lambda: library.choose(a, -1),
+        "a floor of selections": lambda: next(library.selections(a, 2**64)),
+        "a goal": lambda: library.choose(a, goals=[{64}]),
+        "a second goal": lambda: library.choose(a, goals=[{0}, {70}]),
+        "live articles": lambda: library.filter_pass(a, {64}, {0}),
+        "the goal of a pass": lambda: library.filter_pass(a, {0}, {64}),
+        "a group past a byte": lambda: library.choose(a, groups=[0, 0, 256]),
+        "a group below 0": lambda: library.filter_pass(a, {0}, {0}, [-1, 0, 0]),
+        "a fact layer": lambda: library.fact_layer(f, 2**64),
+        "a round layer": lambda: library.round_layer(f, 2**65 + 1),
+        "a layer below 0": lambda: library.fact_layer(f, -1),
+        "the number of a name": lambda: library.name(a, 2**64),
+        "a number below 0": lambda: library.name(a, -1),
+        "a file as text": lambda: library.plan(f.decode("latin-1")),
+        "a number as a file": lambda: library.plan(7),
+        "nothing as a file": lambda: library.choose(None),
+        "an array as a file": lambda: library.plan(bytearray(f)),
+        "a number as the second file": lambda: library.alike(a, 7),
+        "a number as a named file": lambda: library.name(7, 0),
+        "a number as a name": lambda: library.find(a, 5),
+        "no library": lambda: kitchen.Library(ROOT / "missing.so"),
+        "no library of ours": lambda: kitchen.Library(ROOT / "README.md"),
+        "65 articles": lambda: kitchen.choice(0, (), [article()] * 65),
+        "65 wishes": lambda: kitchen.choice(65, (), []),
+        "an order with a wish too high": lambda: kitchen.choice(2, {2}, []),
+        "an article with a wish too high": lambda: kitchen.choice(2, {0}, [article({2})]),
+        "a clash with itself": lambda: kitchen.choice(1, (), [article((), {0})]),
+        "a clash with no article": lambda: kitchen.choice(1, (), [article((), {1})]),
+        "a long name": lambda: kitchen.choice(1, (), [article(name="ä" * 17)]),
+        "33 steps": lambda: kitchen.fitting(0, 0, (), (), [step()] * 33),
+        "33 facts": lambda: kitchen.fitting(33, 0, (), (), []),
+        "17 rounds": lambda: kitchen.fitting(0, 17, (), (), []),
+        "a fact below 0": lambda: kitchen.fitting(2, 1, {-1}, (), []),
+        "a fact too high": lambda: kitchen.fitting(2, 1, (), (), [step(takes={2})]),
+    }.items():
         check(unusable(action), f"{label} is not usable")
         tally["unusable"] += 1
 
@@ -1158,7 +1256,8 @@ def built(tally, draw):
                 articles[one].sets[1].add(other)
         equal(kitchen.written(kitchen.choice(theirs.wishes, theirs.order, articles)), reader.written(theirs), "a choice, built")
         theirs = draws.drawn_fitting(draw)
-        ours = kitchen.fitting(theirs.facts, theirs.horizon, theirs.start, theirs.goal, [kitchen.step(*step) for step in theirs.steps])
+        steps = [kitchen.step(*step) for step in theirs.steps]
+        ours = kitchen.fitting(theirs.facts, theirs.horizon, theirs.start, theirs.goal, steps)
         equal(kitchen.written(ours), reader.written(theirs), "a fitting, built")
         tally["built"] += 2
 
@@ -1180,7 +1279,8 @@ def with_last_wish(job):
     last = max(job.sets[0])
     if last in found.part:
         return found
-    rest = advising.Rest(last, kitchen.Selection(set(), set()), advising.has_selection(advising.ordered(job, job.sets[0] - {last})))
+    enough = advising.has_selection(advising.ordered(job, job.sets[0] - {last}))
+    rest = advising.Rest(last, kitchen.Selection(set(), set()), enough)
     return found._replace(part=found.part | {last}, rests=[*found.rests, rest])
 
 
@@ -1201,7 +1301,7 @@ FAULTS = {
     3: ("emptied empties nothing", advising, "emptied", lambda job, out: job, "advise"),
     4: ("further skips one", asking, "further", skipping, "next"),
     5: ("no set aside is tried", asking, "try_aside", lambda job, aside: None, "stand_in"),
-    6: ("no plan is tried to be shorter", asking, "try_plan", lambda job, rounds: None, "stand_in"),
+    6: ("no shorter plan is looked for", trying, "found_plan", lambda job, most: None, "stand_in"),
     7: ("every answer has status 0", commands, "status_of", lambda answer: 0, "statuses"),
     8: ("all wishes of an article are told, not only those of the order", telling, "fulfilled",
         lambda text, number: text.job.records[number].sets[0], "drawn"),
@@ -1236,6 +1336,22 @@ def run(name):
     print(", ".join(f"{word}: {number}" for word, number in {f"{name} checks": checks - before, **tally}.items()), flush=True)
 
 
+def run_apart(names, fault):
+    """Each section in a process of its own, two at a time."""
+    global checks
+    options = ["--fault", fault] if fault else []
+    with ThreadPoolExecutor(2) as pool:
+        for name, found in zip(names, pool.map(lambda name: ran([sys.executable, "-B", __file__, name, *options]), names)):
+            status, output, errors = found
+            lines = output.splitlines()
+            counted = re.match(r"(\d+) checks", lines[-1] if lines else "")
+            print("\n".join(lines[:-1] if counted else lines), errors, sep="", flush=True)
+            checks += int(counted[1]) if counted else 0
+            if status or not counted:
+                failures.append(name)
+                print(f"FAILED {name}: status {status}", flush=True)
+
+
 def main():
     parser = argparse.ArgumentParser(description="Tests of what tools/job answers.")
     parser.add_argument("sections", nargs="*", metavar="SECTION", help=", ".join(SECTIONS))
@@ -1249,8 +1365,11 @@ def main():
             print(f"FAILED {path} is missing")
             return 1
     place = [plant(given.fault)] if given.fault else list(SECTIONS)
-    for name in given.sections or place:
-        run(name)
+    names = given.sections or place
+    if len(names) == 1:
+        run(names[0])
+    else:
+        run_apart(names, given.fault)
     print(f"{checks} checks" + (f", {len(failures)} failed" if failures else ""))
     return 1 if failures else 0
 
