@@ -266,6 +266,10 @@ FAULTY = [
     (CHOICE + "article X\u00a0Y\n", [(4, 'expected the name without it, or as "X\\xC2\\xA0Y"')]),
     (CHOICE + "article X\u202eY\n", [(4, "does not print")]),
     (CHOICE + "article X\0\n", [(4, 'expected the name without it, or as "X\\x00"')]),
+    ("\u200b" + CHOICE, [(1, "; the line has a character that does not print")]),
+    ("\ufeff\ufeff" + CHOICE, [(1, "; the line has a character that does not print")]),
+    (CHOICE.replace("wishes", "wish\u00ades"), [(1, '"wishes:" is missing'), (2, "; the line has a character that does not print")]),
+    (FITTING.replace("3", "3\u200b"), [(2, "; the line has a character that does not print")]),
     (CHOICE + "article\n" * 66, [(68, "too many articles; expected at most 64")]),
     (FITTING + "step\n" * 33, [(38, "too many steps; expected at most 32")]),
     ("choice\norder:\nwishes: " + ", ".join(map(str, range(65))), [(3, "too many wishes; expected at most 64")]),
@@ -286,6 +290,7 @@ NO_COMMENT = [
     (3, CHOICE.replace("order: a", "order: #0 # x")),
     (3, CHOICE.replace("order: a", "order: # nothing")),
     (3, CHOICE.replace("order: a", "order: a # x")),
+    (4, CHOICE + "nonsense # x\n"),
     (4, CHOICE + "article Hinge # 12\n"),
     (4, CHOICE + "article # a name is to follow\n"),
     (4, CHOICE + "article Hinge #12\n"),
@@ -1152,12 +1157,13 @@ def ended(folder):
         os.close(into)
         equal((process.returncode, errors), (1, b""), f"{arguments}, and nobody reads")
     listen = lambda: signal.signal(signal.SIGINT, signal.default_int_handler)
-    with call("write", "-", stdin=subprocess.PIPE, stderr=subprocess.PIPE, preexec_fn=listen) as process:
-        process.stdin.write(b"#\n" * 500000)  # more than a pipe holds, so it is being read
-        time.sleep(1)  # and now it waits for more
-        process.send_signal(signal.SIGINT)
-        errors = ended_in_time(process)
-    equal((process.returncode, errors), (1, b"tools/job: interrupted, so there is no answer\n"), "Ctrl-C")
+    for number in (signal.SIGINT, signal.SIGTERM):
+        with call("write", "-", stdin=subprocess.PIPE, stderr=subprocess.PIPE, preexec_fn=listen) as process:
+            process.stdin.write(b"#\n" * 500000)  # more than a pipe holds, so it is being read
+            time.sleep(1)  # and now it waits for more
+            process.send_signal(number)
+            errors = ended_in_time(process)
+        equal((process.returncode, errors), (1, b"tools/job: interrupted, so there is no answer\n"), f"signal {number}")
     targets = [folder / name for name in ("one.job", "two.job", "both.job", "both.job")]
     for process in [call("write", SMALL_TEXT, "-o", target) for target in targets]:
         equal(process.wait(), 0, "runs at once")
@@ -1280,17 +1286,25 @@ def helpful(folder):
     equal(answer(job_of(guide.FITTING_EXAMPLE), "rounds 2\n1: 0\n2: 1\n"), plan, "a plan for the example")
 
 
+def tried(part, *arguments):
+    """A part that does not come to its end has failed."""
+    try:
+        part(*arguments)
+    except Exception:
+        check(False, traceback.format_exc())
+
+
 def main():
     with tempfile.TemporaryDirectory() as name:
         folder = pathlib.Path(name).resolve()
         for part in (samples, texts_with_faults, odd_texts, keyboards, warnings, orders, files_refused, explanations):
-            part(folder)
+            tried(part, folder)
         for part in (texts_in_order, comments, large_texts, blanks, there_and_back):
-            part()
+            tried(part)
         for part in (host_jobs, host_limits, answers, printed_junk, choice_rules, plan_rules):
-            part()
+            tried(part)
         for part in (host_rest, standard_input, own_text, terminals, closed_streams, rights, ended, usage, locales, helpful):
-            part(folder)
+            tried(part, folder)
     for failure in failures:
         print(f"FAILED {failure}")
     print(f"{checks} checks" + (f", {len(failures)} failed" if failures else ""))

@@ -5,6 +5,7 @@ import contextlib
 import json
 import os
 import shlex
+import signal
 import sys
 
 from kitchen import CHOICE, VERSION, NoPlan, NoSelection, Reader, written
@@ -15,7 +16,7 @@ from showroom.guide import GUIDE, SUMMARY
 from showroom.page import page
 from showroom.reasons import REASONS, explained
 from showroom.texts import NUMBER, Faulty, is_fitting, remarks, stated
-from showroom.words import clean, printed
+from showroom.words import brief, clean, printed
 
 DONE, FAILED, MISUSED, NONE = 0, 1, 2, 3
 STANDARD = "-"  # stands for standard input, and behind -o for standard output
@@ -147,7 +148,9 @@ def ask_one(path, text, options):
 
 
 def json_line(path, found):
-    return lines_of([json.dumps({"text": shown(path)} | found, ensure_ascii=False)])
+    """The text is named as it was in the call."""
+    named = shown(path) if path == STANDARD else path
+    return (json.dumps({"text": named} | found, ensure_ascii=False) + "\n").encode("utf-8", "replace")
 
 
 def all_texts(options):
@@ -215,10 +218,10 @@ def show(options):
 def explain(options):
     number, place, file = options.number, options.place, options.file
     if not NUMBER.fullmatch(number) or int(number) not in REASONS:
-        raise Trouble(f"{number!r} is no reason; expected a number from 1 to {len(REASONS)}")
+        raise Trouble(f"{brief(number)!r} is no reason; expected a number from 1 to {len(REASONS)}")
     if place is not None and not NUMBER.fullmatch(place):
         if file is not None:
-            raise Misuse(f"{place!r} is no place; expected a number")
+            raise Misuse(f"{brief(place)!r} is no place; expected a number")
         place, file = None, place
     place = None if place is None else int(place)
     emit(explained(int(number), place, None if file is None else Reader(contents(file))).encode())
@@ -306,7 +309,12 @@ def words_of(trouble, path=None):
     return where + str(trouble).rstrip() + "\n"
 
 
+def interrupt(number, frame):
+    raise KeyboardInterrupt
+
+
 def main(arguments):
+    signal.signal(signal.SIGTERM, interrupt)  # as Ctrl-C does, this ends kitchen, too
     try:
         if not arguments:
             emit(parser().format_help().encode())
