@@ -1101,9 +1101,9 @@ def closed_streams(folder):
         (("show", "-"), "<&-", "standard input is closed"),
         (("explain", "6", "-"), "<&-", "standard input is closed"),
         (("show", "-"), "0>/dev/null", "standard input: Bad file descriptor"),
-        (("show", "-"), "</dev/zero", "standard input: it has more than 4000000 bytes"),
-        (("show", "/dev/zero"), "", "/dev/zero: it has more than 4000000 bytes"),
-        (("write", "/dev/zero"), "", "/dev/zero: it has more than 4000000 bytes"),
+        (("show", "-"), "</dev/zero", "standard input: it has more than 4,000,000 bytes"),
+        (("show", "/dev/zero"), "", "/dev/zero: it has more than 4,000,000 bytes"),
+        (("write", "/dev/zero"), "", "/dev/zero: it has more than 4,000,000 bytes"),
         (("write", folder), "", f"{folder}: Is a directory"),
         (("write", SMALL_TEXT, "-o", folder), "", f"{folder}: Is a directory"),
         (("write", SMALL_TEXT, "-o", folder / "no folder" / "a.job"), "", "a.job: No such file or directory"),
@@ -1127,12 +1127,12 @@ def closed_streams(folder):
 
 def rights(folder):
     """Files that may not be read or written, where that can be tried."""
-    if os.geteuid() == 0:
-        return
     text, closed = folder / "secret.txt", folder / "closed"
     text.write_text(KITCHEN)
     text.chmod(0)
     closed.mkdir(mode=0o500)
+    if os.access(text, os.R_OK):
+        return
     for arguments in (("write", text), ("write", SMALL_TEXT, "-o", text), ("write", SMALL_TEXT, "-o", closed / "a.job")):
         status, output, errors = quick(*arguments)
         check((status, output) == (1, b"") and errors.endswith(": Permission denied\n"), f"{arguments}: {errors}")
@@ -1261,6 +1261,7 @@ def helpful(folder):
         "64 articles, 64 wishes",
         "32 steps, 32 facts, a horizon of 16 rounds",
         "32 bytes of an article or step; a letter such as ä has 2",
+        f"a file {commands.LARGEST:,} bytes, be it a text or a job file",
         "Of several kitchens the one with the smallest number comes, so what stands first in the text is preferred.",
         "0 there is a kitchen, there is a plan; or what was asked for is done",
         "1 a text or file is at fault, or there is no answer",

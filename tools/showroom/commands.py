@@ -51,7 +51,7 @@ def contents(path):
     with naming(shown(path)), open(0 if path == STANDARD else path, "rb", closefd=path != STANDARD) as file:
         found = file.read(LARGEST + 1)
     if len(found) > LARGEST:
-        raise Trouble(f"{shown(path)}: it has more than {LARGEST} bytes, so it is neither a text nor a job file")
+        raise Trouble(f"{shown(path)}: it has more than {LARGEST:,} bytes, so it is neither a text nor a job file")
     return found
 
 
@@ -68,9 +68,9 @@ def emit(output):
 
 def note(message):
     """Writes to standard error. Where that cannot be written, the status says what there is to say."""
-    with contextlib.suppress(Trouble, BrokenPipeError):
+    with contextlib.suppress(OSError):
         if sys.stderr is not None:
-            with naming("standard error"), open(2, "wb", closefd=False) as out:
+            with open(2, "wb", closefd=False) as out:
                 out.write(clean(message).encode())
 
 
