@@ -266,6 +266,10 @@ FAULTY = [
     (CHOICE + "article X\u00a0Y\n", [(4, 'expected the name without it, or as "X\\xC2\\xA0Y"')]),
     (CHOICE + "article X\u202eY\n", [(4, "does not print")]),
     (CHOICE + "article X\0\n", [(4, 'expected the name without it, or as "X\\x00"')]),
+    ("\u200b" + CHOICE, [(1, "; the line has a character that does not print")]),
+    ("\ufeff\ufeff" + CHOICE, [(1, "; the line has a character that does not print")]),
+    (CHOICE.replace("wishes", "wish\u00ades"), [(1, '"wishes:" is missing'), (2, "; the line has a character that does not print")]),
+    (FITTING.replace("3", "3\u200b"), [(2, "; the line has a character that does not print")]),
     (CHOICE + "article\n" * 66, [(68, "too many articles; expected at most 64")]),
     (FITTING + "step\n" * 33, [(38, "too many steps; expected at most 32")]),
     ("choice\norder:\nwishes: " + ", ".join(map(str, range(65))), [(3, "too many wishes; expected at most 64")]),
@@ -286,6 +290,7 @@ NO_COMMENT = [
     (3, CHOICE.replace("order: a", "order: #0 # x")),
     (3, CHOICE.replace("order: a", "order: # nothing")),
     (3, CHOICE.replace("order: a", "order: a # x")),
+    (4, CHOICE + "nonsense # x\n"),
     (4, CHOICE + "article Hinge # 12\n"),
     (4, CHOICE + "article # a name is to follow\n"),
     (4, CHOICE + "article Hinge #12\n"),
@@ -1096,9 +1101,9 @@ def closed_streams(folder):
         (("show", "-"), "<&-", "standard input is closed"),
         (("explain", "6", "-"), "<&-", "standard input is closed"),
         (("show", "-"), "0>/dev/null", "standard input: Bad file descriptor"),
-        (("show", "-"), "</dev/zero", "standard input: it has more than 4000000 bytes"),
-        (("show", "/dev/zero"), "", "/dev/zero: it has more than 4000000 bytes"),
-        (("write", "/dev/zero"), "", "/dev/zero: it has more than 4000000 bytes"),
+        (("show", "-"), "</dev/zero", "standard input: it has more than 4,000,000 bytes"),
+        (("show", "/dev/zero"), "", "/dev/zero: it has more than 4,000,000 bytes"),
+        (("write", "/dev/zero"), "", "/dev/zero: it has more than 4,000,000 bytes"),
         (("write", folder), "", f"{folder}: Is a directory"),
         (("write", SMALL_TEXT, "-o", folder), "", f"{folder}: Is a directory"),
         (("write", SMALL_TEXT, "-o", folder / "no folder" / "a.job"), "", "a.job: No such file or directory"),
@@ -1122,12 +1127,12 @@ def closed_streams(folder):
 
 def rights(folder):
     """Files that may not be read or written, where that can be tried."""
-    if os.geteuid() == 0:
-        return
     text, closed = folder / "secret.txt", folder / "closed"
     text.write_text(KITCHEN)
     text.chmod(0)
     closed.mkdir(mode=0o500)
+    if os.access(text, os.R_OK):
+        return
     for arguments in (("write", text), ("write", SMALL_TEXT, "-o", text), ("write", SMALL_TEXT, "-o", closed / "a.job")):
         status, output, errors = quick(*arguments)
         check((status, output) == (1, b"") and errors.endswith(": Permission denied\n"), f"{arguments}: {errors}")
@@ -1152,12 +1157,13 @@ def ended(folder):
         os.close(into)
         equal((process.returncode, errors), (1, b""), f"{arguments}, and nobody reads")
     listen = lambda: signal.signal(signal.SIGINT, signal.default_int_handler)
-    with call("write", "-", stdin=subprocess.PIPE, stderr=subprocess.PIPE, preexec_fn=listen) as process:
-        process.stdin.write(b"#\n" * 500000)  # more than a pipe holds, so it is being read
-        time.sleep(1)  # and now it waits for more
-        process.send_signal(signal.SIGINT)
-        errors = ended_in_time(process)
-    equal((process.returncode, errors), (1, b"tools/job: interrupted, so there is no answer\n"), "Ctrl-C")
+    for number in (signal.SIGINT, signal.SIGTERM):
+        with call("write", "-", stdin=subprocess.PIPE, stderr=subprocess.PIPE, preexec_fn=listen) as process:
+            process.stdin.write(b"#\n" * 500000)  # more than a pipe holds, so it is being read
+            time.sleep(1)  # and now it waits for more
+            process.send_signal(number)
+            errors = ended_in_time(process)
+        equal((process.returncode, errors), (1, b"tools/job: interrupted, so there is no answer\n"), f"signal {number}")
     targets = [folder / name for name in ("one.job", "two.job", "both.job", "both.job")]
     for process in [call("write", SMALL_TEXT, "-o", target) for target in targets]:
         equal(process.wait(), 0, "runs at once")
@@ -1255,6 +1261,7 @@ def helpful(folder):
         "64 articles, 64 wishes",
         "32 steps, 32 facts, a horizon of 16 rounds",
         "32 bytes of an article or step; a letter such as ä has 2",
+        f"a file {commands.LARGEST:,} bytes, be it a text or a job file",
         "Of several kitchens the one with the smallest number comes, so what stands first in the text is preferred.",
         "0 there is a kitchen, there is a plan; or what was asked for is done",
         "1 a text or file is at fault, or there is no answer",
@@ -1280,17 +1287,25 @@ def helpful(folder):
     equal(answer(job_of(guide.FITTING_EXAMPLE), "rounds 2\n1: 0\n2: 1\n"), plan, "a plan for the example")
 
 
+def tried(part, *arguments):
+    """A part that does not come to its end has failed."""
+    try:
+        part(*arguments)
+    except Exception:
+        check(False, traceback.format_exc())
+
+
 def main():
     with tempfile.TemporaryDirectory() as name:
         folder = pathlib.Path(name).resolve()
         for part in (samples, texts_with_faults, odd_texts, keyboards, warnings, orders, files_refused, explanations):
-            part(folder)
+            tried(part, folder)
         for part in (texts_in_order, comments, large_texts, blanks, there_and_back):
-            part()
+            tried(part)
         for part in (host_jobs, host_limits, answers, printed_junk, choice_rules, plan_rules):
-            part()
+            tried(part)
         for part in (host_rest, standard_input, own_text, terminals, closed_streams, rights, ended, usage, locales, helpful):
-            part(folder)
+            tried(part, folder)
     for failure in failures:
         print(f"FAILED {failure}")
     print(f"{checks} checks" + (f", {len(failures)} failed" if failures else ""))

@@ -5,6 +5,7 @@ import contextlib
 import json
 import os
 import shlex
+import signal
 import sys
 
 from kitchen import CHOICE, VERSION, NoPlan, NoSelection, Reader, written
@@ -15,7 +16,7 @@ from showroom.guide import GUIDE, SUMMARY
 from showroom.page import page
 from showroom.reasons import REASONS, explained
 from showroom.texts import NUMBER, Faulty, is_fitting, remarks, stated
-from showroom.words import clean, printed
+from showroom.words import brief, clean, printed
 
 DONE, FAILED, MISUSED, NONE = 0, 1, 2, 3
 STANDARD = "-"  # stands for standard input, and behind -o for standard output
@@ -50,7 +51,7 @@ def contents(path):
     with naming(shown(path)), open(0 if path == STANDARD else path, "rb", closefd=path != STANDARD) as file:
         found = file.read(LARGEST + 1)
     if len(found) > LARGEST:
-        raise Trouble(f"{shown(path)}: it has more than {LARGEST} bytes, so it is neither a text nor a job file")
+        raise Trouble(f"{shown(path)}: it has more than {LARGEST:,} bytes, so it is neither a text nor a job file")
     return found
 
 
@@ -67,9 +68,9 @@ def emit(output):
 
 def note(message):
     """Writes to standard error. Where that cannot be written, the status says what there is to say."""
-    with contextlib.suppress(Trouble, BrokenPipeError):
+    with contextlib.suppress(OSError):
         if sys.stderr is not None:
-            with naming("standard error"), open(2, "wb", closefd=False) as out:
+            with open(2, "wb", closefd=False) as out:
                 out.write(clean(message).encode())
 
 
@@ -151,7 +152,9 @@ def advise_command(path, order):
 
 
 def json_line(path, found):
-    return lines_of([json.dumps({"text": shown(path)} | found, ensure_ascii=False)])
+    """The text is named as it was in the call."""
+    named = shown(path) if path == STANDARD else path
+    return (json.dumps({"text": named} | found, ensure_ascii=False) + "\n").encode("utf-8", "replace")
 
 
 def all_texts(options):
@@ -219,10 +222,10 @@ def show(options):
 def explain(options):
     number, place, file = options.number, options.place, options.file
     if not NUMBER.fullmatch(number) or int(number) not in REASONS:
-        raise Trouble(f"{number!r} is no reason; expected a number from 1 to {len(REASONS)}")
+        raise Trouble(f"{brief(number)!r} is no reason; expected a number from 1 to {len(REASONS)}")
     if place is not None and not NUMBER.fullmatch(place):
         if file is not None:
-            raise Misuse(f"{place!r} is no place; expected a number")
+            raise Misuse(f"{brief(place)!r} is no place; expected a number")
         place, file = None, place
     place = None if place is None else int(place)
     emit(explained(int(number), place, None if file is None else Reader(contents(file))).encode())
@@ -310,7 +313,12 @@ def words_of(trouble, path=None):
     return where + str(trouble).rstrip() + "\n"
 
 
+def interrupt(number, frame):
+    raise KeyboardInterrupt
+
+
 def main(arguments):
+    signal.signal(signal.SIGTERM, interrupt)  # as Ctrl-C does, this ends kitchen, too
     try:
         if not arguments:
             emit(parser().format_help().encode())

@@ -74,6 +74,7 @@ Limits:
   a choice   64 articles, 64 wishes
   a fitting  32 steps, 32 facts, a horizon of 16 rounds
   a name     32 bytes of an article or step; a letter such as ä has 2
+  a file     4,000,000 bytes, be it a text or a job file
 
 Status:
   0  there is a kitchen, there is a plan; or what was asked for is done

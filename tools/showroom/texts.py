@@ -27,6 +27,7 @@ OPENING = re.compile(rf"({'|'.join(OPENINGS)})(?:{BLANK}+(.*))?")
 # One of the words with capitals, or with or without a colon where it should be the other way.
 ALMOST = re.compile(rf"({'|'.join(WORDS)})(?:{BLANK}*:|{BLANK}|$){BLANK}*(.*)", re.IGNORECASE)
 OWN_LINE = "a comment stands in a line of its own"
+UNSEEN = "the line has a character that does not print"
 
 # What a text states: the job, the names of its wishes or facts, and warnings, pairs of a line number and a message.
 Text = namedtuple("Text", "job names warnings")
@@ -122,8 +123,9 @@ class Draft:
             self.close()
 
     def fault(self, line, message, text=""):
-        """Notes a fault. Where something else follows a `#`, it says where comments stand."""
-        self.faults.append((line, message + (f"; {OWN_LINE}" if "#" in text else "")))
+        """Notes a fault. Where the text in question has a `#`, it says where comments stand; and that something is unseen."""
+        message += f"; {OWN_LINE}" if "#" in text else ""
+        self.faults.append((line, message + ("" if text.isprintable() else f"; {UNSEEN}")))
 
     def stop(self, line, message):
         """What follows is not looked at: it would only be misread."""
@@ -151,7 +153,7 @@ class Draft:
         if WORDS.get(word) is self.kind and word != self.kind.word:
             self.fault(number, f'expected "{word}:" in small letters and with a colon')
             return self.add_field(number, word, almost[2])
-        self.fault(number, self.expected())
+        self.fault(number, self.expected(), "" if text.startswith("#") else text)
 
     def close(self):
         """No list goes on any more."""
