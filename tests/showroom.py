@@ -486,7 +486,7 @@ def json_as_second(path, found):
     for article in articles:
         wishes = text.job.records[article["number"]].sets[0] & text.job.sets[0]
         article["wishes"] = [text.names[wish].decode() for wish in sorted(wishes)]
-    expected = {"kind": "choice", "answer": "kitchen", "articles": articles, "set aside": data(answer[1])}
+    expected = {"kind": "choice", "answer": "kitchen", "articles": articles, "set_aside": data(answer[1])}
     equal(found, expected, f"json of {path.name}")
 
 

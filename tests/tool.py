@@ -799,7 +799,7 @@ def host_limits():
         raised(kitchen.Unusable, phrase, build, *arguments)
     later = kitchen.Job(kitchen.CHOICE, 0, None, [set()], [article((), {1}), article()])
     raised(kitchen.Unusable, "the clashes of article 0: there is no 1 below 0", kitchen.written, later)
-    raised(TypeError, "", article, (), (), 5)
+    raised(kitchen.Unusable, "expected bytes, found int", article, (), (), 5)
     largest = choice(64, range(64), [article(range(64), range(number), "x" * 32) for number in range(64)])
     equal(kitchen.read(kitchen.written(largest)), largest, "the largest choice")
     largest = fitting(32, 16, range(32), range(32), [step(range(32), range(32), range(32), "x" * 32)] * 32)
@@ -878,12 +878,12 @@ NOT_TOLD = [
     (NO_KITCHEN, "chosen 0 1\naside\n", "exclude each other"),
     ("F", "chosen\naside\n", 'expected "rounds" and the rounds'),
     ("F", "refused 14 at 0\n", 'expected "rounds" and the rounds'),
-    ("F", "refused 15 at 0\n", "and steps [0, 1, 2], one a round, are one"),
+    ("F", "refused 15 at 0\n", "and the rounds [[0], [1, 2]] are one"),
     ("F", "rounds 3\n1: 0\n2: 1 2\n", "expected the rounds 1 to 3"),
     ("F", "rounds 1\n1: 0\n2: 1 2\n", "expected the rounds 1 to 1"),
     ("F", "rounds 2\n1: 0\n3: 1 2\n", "expected the rounds 1 to 2"),
     ("F", "rounds 2\n2: 0\n1: 1 2\n", "expected the rounds 1 to 2"),
-    ("F", "rounds 02\n1: 0\n2: 1 2\n", "expected the rounds 1 to 02"),
+    ("F", "rounds 02\n1: 0\n2: 1 2\n", 'expected "rounds" and the rounds'),
     ("F", "rounds 2\n01: 0\n2: 1 2\n", "expected the rounds 1 to 2"),
     ("F", "rounds 2\n1: 00\n2: 1 2\n", "numbers do not rise"),
     ("F", "rounds 2\n1: 0\n2: 2 1\n", "numbers do not rise"),
@@ -897,11 +897,11 @@ NOT_TOLD = [
     ("F", "rounds 3\n1: 0\n2:\n3: 1 2\n", "round 2 is empty"),
     ("F", "rounds 4\n1: 0\n2: 1\n3: 2\n4: 2\n", "4 rounds are more than the horizon has"),
     ("fitting", "rounds 3\n1: 0 1\n2: 2 4\n3: 3\n", "in round 2, step 2 takes what step 4 needs or gives"),
-    (SHORT, "rounds 2\n1: 0\n2: 1\n", "there is none of at most 1 rounds, and steps [2], one a round, are one"),
+    (SHORT, "rounds 2\n1: 0\n2: 1\n", "there is none of at most 1 rounds, and the rounds [[0, 1, 2]] are one"),
     (SHORT, "rounds 1\n1: 0 3\n", "in round 1, step 3 takes what step 0 needs or gives"),
     (SHORT, "refused 15 at 0\n", "it says that there is none of at most 2 rounds"),
     (NO_PLAN, "rounds 1\n1: 0\n", "fact 0 of the goal does not hold in the end"),
-    (NO_PLAN.replace("start: a", "start: a, b"), "refused 15 at 0\n", "and steps [], one a round, are one"),
+    (NO_PLAN.replace("start: a", "start: a, b"), "refused 15 at 0\n", "and the rounds [] are one"),
 ]
 
 
