@@ -357,14 +357,16 @@ def flags(folder):
 
 
 def programs_of(folder):
-    """The first program of the installed header, and a Python program, which know nothing but what was installed."""
+    """The first programs of the installed header, in C and in Python, which know nothing but what was installed."""
     source, program = "target/first_installed.c", "target/first_installed"
     (ROOT / source).write_text(shown((folder / "include" / "kitchen.h").read_text())[0])
     run(["cc", "-std=c99", source, *flags(folder), "-o", program])
     first_program(["env", f"LD_LIBRARY_PATH={folder}/lib", program])
-    loads = "import ctypes, sys; print(ctypes.CDLL(sys.argv[1]).kitchen_version())"
-    printed = run([sys.executable, "-c", loads, str(folder / "lib" / "libkitchen.so")])
-    demand(printed == interface()[1] + "\n", f"from Python the installed library says that its number is {printed}")
+    in_python = shown((folder / "include" / "kitchen.h").read_text())[1]
+    demand(in_python.count("target/lib/libkitchen.so") == 1, "the Python program of the header loads something else")
+    script = "target/first_installed.py"
+    (ROOT / script).write_text(in_python.replace("target/lib/libkitchen.so", str(folder / "lib" / "libkitchen.so")))
+    first_program([sys.executable, "-B", script])
 
 
 def installed():
