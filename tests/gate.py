@@ -10,6 +10,7 @@ import resource
 import subprocess
 import sys
 import time
+from collections import Counter
 
 from run import Failed, RtRun, demand, main
 
@@ -55,7 +56,8 @@ def prove_and_run():
         counted = re.fullmatch(r"([1-9][0-9]*) passed, 0 failed", rt.last_line())
         demand(counted, f"rt ci's last line is '{rt.last_line()}'")
         for kind, names in there.items():
-            demand(names and sorted(rt.steps[kind]) == sorted(names), f"rt says '{kind}' of {rt.steps[kind]}, and there are {names}")
+            lacks, more = Counter(names) - Counter(rt.steps[kind]), Counter(rt.steps[kind]) - Counter(names)
+            demand(names and not lacks and not more, f"of {len(names)} '{kind}' rt does not report {sorted(lacks)}; it reports {sorted(more)} beyond them")
         demand(int(counted[1]) == len(crates()) + len(edits()), f"rt counts {counted[1]}, and there are {len(crates())} crates and {len(edits())} edits")
     except Failed:
         print(rt.to_read(), end="", flush=True)
