@@ -12,7 +12,6 @@ import shlex
 import shutil
 import subprocess
 import sys
-import time
 from collections import Counter
 
 from run import Failed, RtRun, demand, main
@@ -430,12 +429,18 @@ def dist():
     return len(wanted) + 2 + example(["target/example_unpacked"])
 
 
+def processor_seconds():
+    """What the commands that were run have used: it does not hang on what else the machine does."""
+    used = resource.getrusage(resource.RUSAGE_CHILDREN)
+    return used.ru_utime + used.ru_stime
+
+
 def beside():
-    """The second program beside ours through the C interface: at least 20,000 comparisons within three minutes, and every sort of them."""
+    """The second program beside ours through the C interface: at least 20,000 comparisons in three minutes of processor time, and every sort of them."""
     shared = built_library()[1]
-    before = time.monotonic()
+    before = processor_seconds()
     printed = run([sys.executable, "-B", "reference/beside.py", shared])
-    seconds = time.monotonic() - before
+    seconds = processor_seconds() - before
     wanted = [f"refused {n}" for n in range(1, 17)] + [f"plans of {n}" for n in range(6)] + ["plans with step 31"]
     wanted += ["passes that struck", "floors that mattered", "choices that set aside", "layers with mutexes"]
     wanted += ["choices of article 63", "choices that set article 63 aside"]
