@@ -13,6 +13,7 @@ import shutil
 import subprocess
 import sys
 from collections import Counter
+from concurrent.futures import ThreadPoolExecutor
 
 from run import Failed, RtRun, demand, main
 
@@ -481,10 +482,12 @@ def showroom():
 def showroom_faults():
     """Each mistake that tests/showroom.py plants in the tool on purpose is found."""
     built_library()
-    planted = re.findall(r"^    (\d+): ", (ROOT / "tests" / "showroom.py").read_text().partition("\nFAULTS = {\n")[2].partition("\n}")[0], re.M)
-    for fault in planted:
-        printed = run([sys.executable, "-B", "tests/showroom.py", "--fault", fault], status=1)
-        print(f"fault {fault}: {printed.splitlines()[0]}", flush=True)
+    table = (ROOT / "tests" / "showroom.py").read_text().partition("\nFAULTS = {\n")[2].partition("\n}")[0]
+    planted = re.findall(r"^    (\d+): ", table, re.M)
+    found = lambda fault: run([sys.executable, "-B", "tests/showroom.py", "--fault", fault], status=1)
+    with ThreadPoolExecutor(2) as pool:
+        for fault, printed in zip(planted, pool.map(found, planted)):
+            print(f"fault {fault}: {printed.splitlines()[0]}", flush=True)
     return len(planted)
 
 
