@@ -60,10 +60,8 @@ uninstall:
 dist: all
 	@rm -rf $(folder)
 	@KITCHEN_PC_PREFIX='$${pcfiledir}/../..' $(MAKE) --no-print-directory -s install DESTDIR=$(folder) PREFIX= >/dev/null
-	@mkdir -p $(folder)/docs
-	@cp -R host jobs tools $(folder)
+	@cp -R docs host jobs tools $(folder)
 	@cp README.md show $(folder)
-	@cp docs/RULES.md $(folder)/docs
 	@rm -f $(folder)/tools/library
 	@find $(folder) -name __pycache__ -prune -exec rm -rf {} +
 	@{ rt version && $(commit) && echo 'machine x86-64 Linux'; } >$(folder)/KIT

@@ -419,7 +419,8 @@ def dist():
     tarball = f"target/dist/kitchen-{interface()[1]}.tar.gz"
     demand(packed(tarball) == packed(tarball), "make dist made two different tarballs")
     folder = unpacked(tarball)
-    wanted = {*to_install(), "KIT", "README.md", "docs/RULES.md", "host/example.c", "jobs/A.txt", "show", "tools/job"}
+    links = re.findall(r"\]\(([^)#\s:]+)\)", (ROOT / "README.md").read_text())
+    wanted = {*to_install(), *links, "KIT", "README.md", "host/example.c", "jobs/A.txt", "show", "tools/job"}
     demand(wanted <= set(files_in(folder)), f"the tarball lacks {wanted - set(files_in(folder))}")
     answers_f(folder / "bin" / "kitchen")
     run(["cc", "-std=c99", f"-I{folder}/include", f"{folder}/host/example.c", f"{folder}/lib/libkitchen.a", "-o", "target/example_unpacked"])
@@ -473,6 +474,15 @@ def tool():
     return checks_of("tool")
 
 
+def first_command():
+    """The README's first command, run as it stands there, tells a kitchen and a plan."""
+    command = re.search(r"^```\n(.*)\n```$", (ROOT / "README.md").read_text(), re.M)[1]
+    printed = run(["sh", "-c", command])
+    told = [line for line in ("A kitchen of 7 articles ", "A plan of 8 rounds; ") if f"\n{line}" in printed]
+    demand(len(told) == 2, f"{command}: {printed}")
+    return len(told)
+
+
 def showroom():
     """tests/showroom.py: what tools/job and host/kitchen.py answer, beside the second program, brute force and lying stand-ins."""
     built_library()
@@ -513,7 +523,7 @@ def runner():
 
 CHECKS = [
     *(prove_and_run, refused_for_a_fact, layout, nothing_foreign, assumptions_as_stated, trace, documents, second_program),
-    *(kitchen_prints, small_stack, header, hosts, beside, faults, tool, showroom, showroom_faults, page, runner),
+    *(kitchen_prints, small_stack, header, hosts, beside, faults, tool, first_command, showroom, showroom_faults, page, runner),
 ]
 # Pairs of a check and a further tool that it needs. They are run where the tool is there, and counted apart.
 EXTRA = [(as_cpp, "c++"), (rust, "rustc"), (installed, "make"), (dist, "make")]

@@ -353,7 +353,7 @@ def names_of_any_bytes():
 def horizons():
     """Whether a longer horizon would do may be left open."""
     text = stated(NO_PLAN.encode())
-    for rounds, phrase in ((None, "was not answered within"), (0, "No horizon would do"), (7, "A horizon of 7 rounds")):
+    for rounds, phrase in ((None, "was not answered within"), (0, "No plan takes 16 rounds or fewer"), (7, "A horizon of 7 rounds")):
         root = form(f"{rounds} rounds", page("plan", text, kitchen.NoPlan, Horizon({2}, rounds)))
         said = [node.text for node in root.iter("p")]
         equal(said[1:-1], ['Nothing gives "moon & stars", and it does not hold at the start.'], f"{rounds} rounds, ungiven")

@@ -444,7 +444,7 @@ def advise_statuses(tally, faulty, missing, short):
         check(status != 1 or str(path) in errors, f"advise {path.name}: what is wrong\n{errors}")
         tally["advised"] += 1
     _, output, _ = ran([TOOL, "advise", short])
-    check("A horizon of 2 rounds would do, and none below it." in output, output)
+    check("A horizon of 2 rounds would do; no plan has fewer." in output, output)
 
 
 def json_lines(tally, faulty, missing, short):
@@ -913,8 +913,8 @@ def which_horizon(tally, text, found, label):
     tally["goals that are given in vain"] += not ungiven and not rounds
     lines = [f'Nothing gives "{text.names[fact].decode()}", and it does not hold at the start.' for fact in sorted(ungiven)]
     word = "round" if rounds == 1 else "rounds"
-    would = f"A horizon of {rounds} {word} would do, and none below it."
-    return [*lines, would if rounds else f"No horizon would do, up to {most} rounds, the most that a job can have."]
+    would = f"A horizon of {rounds} {word} would do; no plan has fewer."
+    return [*lines, would if rounds else f"No plan takes {most} rounds or fewer, and no job can have more."]
 
 
 def as_lines(tally, folder, text, answer, expected, number, label):

@@ -1,9 +1,10 @@
 """Why, why not, what else: by asking kitchen about jobs that differ from the one in question.
 
-What is concluded from the answers are theorems (crates/choice/proofs/Advice.antt): with the wishes of some articles emptied
+What is concluded of a choice are theorems (crates/choice/proofs/Advice.antt): with the wishes of some articles emptied
 there is a selection exactly if there is one without these articles; an article is in some selection exactly if the order
 without its wishes has one without the article itself and those that it clashes with; it is in every one exactly if there is
-none without it; and what has no selection for a part of the order has none for the order.
+none without it; and what has no selection for a part of the order has none for the order. Of a fitting nothing is
+concluded: what is said of another horizon is the answer for a job that has it.
 """
 
 import subprocess
@@ -24,8 +25,8 @@ Articles = namedtuple("Articles", "every none some")
 # order can be had.
 Conflict = namedtuple("Conflict", "uncarried part rests")
 Rest = namedtuple("Rest", "wish kitchen enough")
-# Where there is no plan: goal facts that do not hold at the start and that nothing gives; the fewest rounds that would do, 0
-# where none up to the most that a file can state does, and None where that was not answered in time.
+# Where there is no plan: goal facts that do not hold at the start and that nothing gives; the rounds of a shortest plan, 0
+# where it would have more than a file can state, and None where that was not answered in time.
 Horizon = namedtuple("Horizon", "ungiven rounds")
 
 
@@ -94,14 +95,21 @@ def horizon(job):
     if job.horizon == job.kind.horizon:
         return Horizon(ungiven, 0)
     try:
-        answer = asked(job._replace(horizon=job.kind.horizon), PATIENCE)
+        return Horizon(ungiven, fewest(job))
     except subprocess.TimeoutExpired:
         return Horizon(ungiven, None)
+
+
+def fewest(job):
+    """The rounds of a shortest plan with the longest horizon, 0 if there is none; that horizon itself is then asked about, too."""
+    answer = asked(job._replace(horizon=job.kind.horizon), PATIENCE)
     if answer is NoPlan:
-        return Horizon(ungiven, 0)
-    if len(answer.rounds) <= job.horizon:
+        return 0
+    rounds = len(answer.rounds)
+    again = asked(job._replace(horizon=rounds), PATIENCE)
+    if rounds <= job.horizon or again is NoPlan or len(again.rounds) != rounds:
         raise Failed("kitchen gave two answers to one question")
-    return Horizon(ungiven, len(answer.rounds))
+    return rounds
 
 
 def advice(job, answer):
@@ -147,8 +155,8 @@ def horizon_told(text, found):
     if found.rounds is None:
         return [*lines, f"Whether more rounds would do, up to {most}, was not answered within {PATIENCE} seconds."]
     if found.rounds == 0:
-        return [*lines, f"No horizon would do, up to {most}, the most that a job can have."]
-    return [*lines, f"A horizon of {counted(found.rounds, 'round', 'rounds')} would do, and none below it."]
+        return [*lines, f"No plan takes {most} or fewer, and no job can have more."]
+    return [*lines, f"A horizon of {counted(found.rounds, 'round', 'rounds')} would do; no plan has fewer."]
 
 
 def advised(text, answer):
