@@ -124,14 +124,13 @@ def advice(job, answer):
 # ---- in words
 
 
-def articles_told(text, found):
-    return listed(
-        [
-            ("In every kitchen for this order:", names_of(text.job, found.every) or "no article"),
-            ("In none:", names_of(text.job, found.none) or "no article"),
-            ("In some:", names_of(text.job, found.some) or "no article"),
-        ]
-    )
+def standings(text, found):
+    """What is said of the articles, and the articles of which it is said."""
+    return [
+        ("In every kitchen for this order:", names_of(text.job, found.every) or "no article"),
+        ("In none:", names_of(text.job, found.none) or "no article"),
+        ("In some:", names_of(text.job, found.some) or "no article"),
+    ]
 
 
 def rest_told(text, rest):
@@ -164,7 +163,7 @@ def advised(text, answer):
     found = advice(text.job, answer)
     lines = told(text, answer)
     if isinstance(found, Articles):
-        return lines + articles_told(text, found)
+        return lines + listed(standings(text, found))
     if isinstance(found, Conflict):
         return lines + conflict_told(text, found)
     return lines + (horizon_told(text, found) if found else [])

@@ -6,10 +6,10 @@ The page claims no more than the answer and the advice. All else on it stands in
 import html
 
 from kitchen import CHOICE, NoPlan, NoSelection
-from showroom.advising import conflict_told, horizon_told, rest_told
+from showroom.advising import conflict_told, horizon_told, rest_told, standings
 from showroom.rules import both_ways
-from showroom.telling import fulfilled, member_names, told
-from showroom.words import called, counted, names, names_of, printed, series
+from showroom.telling import article_rows, member_names, round_rows, told
+from showroom.words import called, counted, names_of, printed, series
 
 # Signs of a cell or a name, with the word that is read out.
 CHOSEN, CARRIED, CLASH, DONE = ("✓", "chosen"), ("●", "carried"), ("×", "clash"), ("●", "done")
@@ -173,17 +173,12 @@ def grid_row(name, cells, chosen=False):
 
 
 def chosen_table(text, articles):
-    rows = [(called(text.job, number), "; ".join(member_names(text, fulfilled(text, number)))) for number in sorted(articles)]
+    rows = article_rows(text, articles)
     return texts_table("The articles, and what they carry of the order", rows) if rows else ""
 
 
 def articles_section(text, advice):
-    rows = [
-        ("In every kitchen for this order:", names_of(text.job, advice.every) or "no article"),
-        ("In none:", names_of(text.job, advice.none) or "no article"),
-        ("In some:", names_of(text.job, advice.some) or "no article"),
-    ]
-    return section("What else", texts_table("The articles, by the kitchens for this order", rows))
+    return section("What else", texts_table("The articles, by the kitchens for this order", standings(text, advice)))
 
 
 def conflict_section(text, advice):
@@ -266,8 +261,7 @@ def round_chart(text, rounds):
 
 def plan_parts(text, rounds):
     if rounds:
-        rows = [(f"round {number}", "; ".join(names(text.job, steps))) for number, steps in enumerate(rounds, 1)]
-        yield texts_table("The rounds", rows)
+        yield texts_table("The rounds", round_rows(text, rounds))
         yield section("Steps and rounds", key("● the step is done in this round"), round_chart(text, rounds))
     unused = set(range(len(text.job.records))).difference(*rounds)
     if unused:

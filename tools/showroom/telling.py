@@ -24,11 +24,17 @@ def fulfilled(text, number):
 
 
 def article_rows(text, articles):
+    """Articles, with the ordered wishes that each fulfils."""
     rows = []
     for number in sorted(articles):
         wishes = "; ".join(member_names(text, fulfilled(text, number)))
         rows.append((called(text.job, number), wishes or "(no wish of the order)"))
-    return listed(rows)
+    return rows
+
+
+def round_rows(text, rounds):
+    """Rounds, with the steps of each."""
+    return [(f"round {number}", "; ".join(names(text.job, steps))) for number, steps in enumerate(rounds, 1)]
 
 
 def kitchen_told(text, answer):
@@ -37,7 +43,7 @@ def kitchen_told(text, answer):
         return ["The order has no wish, so the kitchen needs no article."]
     exclude = "; no two of them exclude each other" if articles > 1 else ""
     lines = [f"A kitchen of {counted(articles, 'article', 'articles')} covers the order of {wishes}{exclude}:"]
-    return lines + article_rows(text, answer.articles)
+    return lines + listed(article_rows(text, answer.articles))
 
 
 def aside_told(text, aside):
@@ -51,7 +57,7 @@ def rounds_told(text, rounds):
     if not rounds:
         return ["The goal holds at the start, so the fitting takes no round."]
     lines = [f"A plan of {counted(len(rounds), 'round', 'rounds')}; no plan has fewer:"]
-    return lines + listed([(f"round {number}", "; ".join(names(text.job, steps))) for number, steps in enumerate(rounds, 1)])
+    return lines + listed(round_rows(text, rounds))
 
 
 def told(text, answer):
@@ -68,7 +74,7 @@ def further_told(text, kitchens):
     lines = []
     for number, other in enumerate(kitchens, 1):
         lines += [f"Further kitchen {number}, of {counted(len(other.articles), 'article', 'articles')}:"]
-        lines += article_rows(text, other.articles)
+        lines += listed(article_rows(text, other.articles))
     return lines if kitchens else ["There is no further kitchen."]
 
 
