@@ -21,7 +21,7 @@ use Rattle.network.proofs.ListedLaws.{groups-listed, pass-listed}
 use Rattle.choice.specs.declared.Choice.{Choice}
 use Rattle.choice.specs.declared.Choice.the-variants as Choice
 use Rattle.choice.specs.Choice.{selection, chosenBy, chosen}
-use Rattle.lending.specs.Answers.{Answer, refusal, value, onJob, behind, Left, leaving}
+use Rattle.lending.specs.Answers.{Answer, refusal, value, onJob, behind, Said, answered, said, refusalSaid, Left, leaving}
 use Rattle.lending.specs.Tests.{roomTest, groupsTest, passTest, goalsTest, verdictOf, networkIn}
 use Rattle.lending.proofs.TestLaws.{stopped, through, groups-passed, goals-passed}
 use Rattle.calls.specs.Partition.{partitionIn, partitionOf}
@@ -35,7 +35,7 @@ module _ (f old : List ℕ) where
   abbrev left : Answer (List ℕ) → Left (Unit {0})
   left a = leaving (λ groups. groups) (λ groups. tt) old a
 
-  pub partition-down : {v : Verdict} {x : Refusal} → v ≡ choiceOf (read spots choices f) .verdict → v ≡ Verdict.Refused x → record { answer = refusal (x .reason) (x .place); buffer = old } ≡ partitionOf f old
+  pub partition-down : {v : Verdict} {x : Refusal} → v ≡ choiceOf (read spots choices f) .verdict → v ≡ Verdict.Refused x → record { answer = refusalSaid x; buffer = old } ≡ partitionOf f old
   partition-down p q = ap left (job-down (λ job. partitionIn job old) (choice-down f p q))
 
   module _ (r : ReadChoice) (R : ChoiceRead f r) {v : Verdict} (e : v ≡ verdictOf (roomTest (length old) (r .articles))) where
@@ -45,23 +45,23 @@ module _ (f old : List ℕ) where
     on-file : partitionOver (networkIn r) ≡ onJob (readJob choices f) (λ job. partitionIn job old)
     on-file = ap partitionOver (R .network) ∙ on-job (λ job. partitionIn job old) (R .is)
 
-    pub partition-short : {x : Refusal} → v ≡ Verdict.Refused x → record { answer = refusal (x .reason) (x .place); buffer = old } ≡ partitionOf f old
+    pub partition-short : {x : Refusal} → v ≡ Verdict.Refused x → record { answer = refusalSaid x; buffer = old } ≡ partitionOf f old
     partition-short q = ap left (stopped (roomTest (length old) (r .articles)) (value (groupsTo (networkIn r) (r .articles))) e q ∙ on-file)
 
     -- the code looks at clashes only
-    pub partition-made : {new : List ℕ} → v ≡ Verdict.Accepted → new ≡ groupsTo (listed 64 [] (r .clashes)) (r .articles) ++ drop (r .articles) old → record { answer = value tt; buffer = new } ≡ partitionOf f old
+    pub partition-made : {new : List ℕ} → v ≡ Verdict.Accepted → new ≡ groupsTo (listed 64 [] (r .clashes)) (r .articles) ++ drop (r .articles) old → record { answer = answered tt; buffer = new } ≡ partitionOf f old
     partition-made {new} q made =
         let N = networkIn r in
         let n = r .articles in
         let same : new ≡ groupsTo N n ++ drop (length (groupsTo N n)) old =
         made ∙ ap₂ (λ (groups : List ℕ) (k : ℕ). groups ++ drop k old) (groups-listed 64 n [] (r .wishes) (r .clashes) n) (sym (groups-length N n)) in
-        ap (λ (b : List ℕ). record { answer = value tt; buffer = b }) same ∙ ap left (through (roomTest (length old) n) (value (groupsTo N n)) e q ∙ on-file)
+        ap (λ (b : List ℕ). record { answer = answered tt; buffer = b }) same ∙ ap left (through (roomTest (length old) n) (value (groupsTo N n)) e q ∙ on-file)
 
 -- ---- the pass
 
 module _ (f groups : List ℕ) (live goal : ℕ) where
-  pub pass-down : {v : Verdict} {x : Refusal} → v ≡ choiceOf (read spots choices f) .verdict → v ≡ Verdict.Refused x → refusal (x .reason) (x .place) ≡ passOf f groups live goal
-  pass-down p q = job-down (λ job. passIn job groups live goal) (choice-down f p q)
+  pub pass-down : {v : Verdict} {x : Refusal} → v ≡ choiceOf (read spots choices f) .verdict → v ≡ Verdict.Refused x → refusalSaid x ≡ said (passOf f groups live goal)
+  pass-down p q = ap said (job-down (λ job. passIn job groups live goal) (choice-down f p q))
 
   module _ (r : ReadChoice) (R : ChoiceRead f r) {v : Verdict} (e : v ≡ verdictOf (groupsTest (networkIn r) groups)) where
     -- over a network and an order: what is made, behind the tests
@@ -74,18 +74,18 @@ module _ (f groups : List ℕ) (live goal : ℕ) where
     on-file-2 : passOver (networkIn r) (r .order) ≡ passOf f groups live goal
     on-file-2 = ap₂ passOver (R .network) (R .wanted) ∙ on-job (λ job. passIn job groups live goal) (R .is)
 
-    pub pass-groups : {x : Refusal} → v ≡ Verdict.Refused x → refusal (x .reason) (x .place) ≡ passOf f groups live goal
-    pass-groups q = stopped (groupsTest (networkIn r) groups) (behind (passTest (r .articles) (r .order) live goal) (made (networkIn r))) e q ∙ on-file-2
+    pub pass-groups : {x : Refusal} → v ≡ Verdict.Refused x → refusalSaid x ≡ said (passOf f groups live goal)
+    pass-groups q = ap said (stopped (groupsTest (networkIn r) groups) (behind (passTest (r .articles) (r .order) live goal) (made (networkIn r))) e q ∙ on-file-2)
 
     module _ (ok : v ≡ Verdict.Accepted) {t : Verdict} (h : t ≡ verdictOf (passTest (r .articles) (r .order) live goal)) where
-      behind-groups : {a : Answer ℕ} → a ≡ behind (passTest (r .articles) (r .order) live goal) (made (networkIn r)) → a ≡ passOf f groups live goal
-      behind-groups k = k ∙ through (groupsTest (networkIn r) groups) (behind (passTest (r .articles) (r .order) live goal) (made (networkIn r))) e ok ∙ on-file-2
+      behind-groups : {a : Answer ℕ} → a ≡ behind (passTest (r .articles) (r .order) live goal) (made (networkIn r)) → said a ≡ said (passOf f groups live goal)
+      behind-groups k = ap said (k ∙ through (groupsTest (networkIn r) groups) (behind (passTest (r .articles) (r .order) live goal) (made (networkIn r))) e ok ∙ on-file-2)
 
-      pub pass-goal : {x : Refusal} → t ≡ Verdict.Refused x → refusal (x .reason) (x .place) ≡ passOf f groups live goal
+      pub pass-goal : {x : Refusal} → t ≡ Verdict.Refused x → refusalSaid x ≡ said (passOf f groups live goal)
       pass-goal q = behind-groups (stopped (passTest (r .articles) (r .order) live goal) (made (networkIn r)) h q)
 
       -- the code looks at wishes only
-      pub pass-made : {x : ℕ} → t ≡ Verdict.Accepted → x ≡ pass (listed (r .articles) (r .wishes) []) (λ u. getD groups u 0) live goal → value x ≡ passOf f groups live goal
+      pub pass-made : {x : ℕ} → t ≡ Verdict.Accepted → x ≡ pass (listed (r .articles) (r .wishes) []) (λ u. getD groups u 0) live goal → answered x ≡ said (passOf f groups live goal)
       pass-made q p =
           behind-groups
           (ap (λ (s : ℕ). value s) (p ∙ pass-listed (r .articles) (r .wishes) [] (r .clashes) (λ u. getD groups u 0) live goal)
@@ -103,8 +103,8 @@ told-is none aside = refl
 told-is (some x) aside = refl
 
 module _ (f groups goals : List ℕ) (floor : ℕ) where
-  pub choose-down : {v : Verdict} {x : Refusal} → v ≡ choiceOf (read spots choices f) .verdict → v ≡ Verdict.Refused x → refusal (x .reason) (x .place) ≡ chooseOf f groups goals floor
-  choose-down p q = job-down (λ job. chooseIn job groups goals floor) (choice-down f p q)
+  pub choose-down : {v : Verdict} {x : Refusal} → v ≡ choiceOf (read spots choices f) .verdict → v ≡ Verdict.Refused x → refusalSaid x ≡ said (chooseOf f groups goals floor)
+  choose-down p q = ap said (job-down (λ job. chooseIn job groups goals floor) (choice-down f p q))
 
   module _ (r : ReadChoice) (R : ChoiceRead f r) {v : Verdict} (e : v ≡ verdictOf (groupsTest (networkIn r) groups)) where
     abbrev chosenOver : Network → ℕ → Answer Chosen
@@ -116,14 +116,14 @@ module _ (f groups goals : List ℕ) (floor : ℕ) where
     on-file-3 : chooseOver (networkIn r) (r .order) ≡ chooseOf f groups goals floor
     on-file-3 = ap₂ chooseOver (R .network) (R .wanted) ∙ on-job (λ job. chooseIn job groups goals floor) (R .is)
 
-    pub choose-groups : {x : Refusal} → v ≡ Verdict.Refused x → refusal (x .reason) (x .place) ≡ chooseOf f groups goals floor
-    choose-groups q = stopped (groupsTest (networkIn r) groups) (behind (goalsTest (r .order) goals) (chosenOver (networkIn r) (r .order))) e q ∙ on-file-3
+    pub choose-groups : {x : Refusal} → v ≡ Verdict.Refused x → refusalSaid x ≡ said (chooseOf f groups goals floor)
+    choose-groups q = ap said (stopped (groupsTest (networkIn r) groups) (behind (goalsTest (r .order) goals) (chosenOver (networkIn r) (r .order))) e q ∙ on-file-3)
 
     module _ (ok : v ≡ Verdict.Accepted) {t : Verdict} (h : t ≡ verdictOf (goalsTest (r .order) goals)) where
-      behind-partition : {a : Answer Chosen} → a ≡ behind (goalsTest (r .order) goals) (chosenOver (networkIn r) (r .order)) → a ≡ chooseOf f groups goals floor
-      behind-partition k = k ∙ through (groupsTest (networkIn r) groups) (behind (goalsTest (r .order) goals) (chosenOver (networkIn r) (r .order))) e ok ∙ on-file-3
+      behind-partition : {a : Answer Chosen} → a ≡ behind (goalsTest (r .order) goals) (chosenOver (networkIn r) (r .order)) → said a ≡ said (chooseOf f groups goals floor)
+      behind-partition k = ap said (k ∙ through (groupsTest (networkIn r) groups) (behind (goalsTest (r .order) goals) (chosenOver (networkIn r) (r .order))) e ok ∙ on-file-3)
 
-      pub choose-goals : {x : Refusal} → t ≡ Verdict.Refused x → refusal (x .reason) (x .place) ≡ chooseOf f groups goals floor
+      pub choose-goals : {x : Refusal} → t ≡ Verdict.Refused x → refusalSaid x ≡ said (chooseOf f groups goals floor)
       choose-goals q = behind-partition (stopped (goalsTest (r .order) goals) (chosenOver (networkIn r) (r .order)) h q)
 
       -- the search was asked for what it requires
@@ -132,7 +132,7 @@ module _ (f groups goals : List ℕ) (floor : ℕ) where
           let (room, right) = groups-passed (networkIn r) groups e ok in
           (room, lent-right (networkIn r) (λ u. getD groups u 0) right, goals-within (r .order) goals (goals-passed (r .order) goals h q))
 
-      pub choose-made : {c d : Choice} → t ≡ Verdict.Accepted → c ≡ chosen (networkIn r) (λ u. getD groups u 0) goals (r .order) floor → c ≡ d → told d ≡ chooseOf f groups goals floor
+      pub choose-made : {c d : Choice} → t ≡ Verdict.Accepted → c ≡ chosen (networkIn r) (λ u. getD groups u 0) goals (r .order) floor → c ≡ d → said (told d) ≡ said (chooseOf f groups goals floor)
       choose-made q p k =
           behind-partition
           (ap told (sym k ∙ p) ∙ told-is (selection (networkIn r) (r .order) floor) (setAside (networkIn r) (λ u. getD groups u 0) goals)

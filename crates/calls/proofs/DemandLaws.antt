@@ -6,14 +6,13 @@ use mathlib.Core.Bool.{Bool, true, false, not, _&&_, _||_, true≢false, false�
 use mathlib.Core.List.{List, [], _∷_, _++_}
 use mathlib.Core.Option.{Option, none, some, Option·none-ne-some, Option·some-injective}
 use Prim.Native.Nat.{ℕ, zero, suc, _+_, _-_, _/_, _^_, _≤_, _<_, zero-le}
-use native.Mathlib.Nat.{le-div-iff-mul-le, one-mul, le-trans}
+use native.Mathlib.Nat.{le-div-iff-mul-le, one-mul, le-trans, le-antisymm, min-le-left}
 use native.Mathlib.Decide.{decLe}
 use native.Mathlib.Omega.{arith}
 use lib.Dec.{leb, ltb, eqb}
-use lib.ListN.{length, getD, drop}
-use lib.Seq.{length-take-le}
+use lib.ListN.{length, getD, take, drop, length-take}
 use lib.Pow.{pow-pos, pow-mono}
-use borrow.Author.Tests.{leb-true, le-leb, ltb-true, ltb-false, lt-ltb, eqb-true, eqb-false, eq-eqb, not-true, not-false}
+use borrow.Author.Tests.{leb-true, le-leb, ltb-true, lt-ltb, eqb-true, eqb-false, eq-eqb, not-true, not-false}
 use Rattle.sets.specs.Sets.{_∈_, without, part}
 use Rattle.sets.specs.Ranges.{anyTo}
 use Rattle.sets.specs.First.{firstFrom, LeastFrom, Smallest}
@@ -22,16 +21,19 @@ use Rattle.sets.proofs.Bits.{bit-shift, in-without, top-in, yes-part, part-in}
 use Rattle.sets.proofs.Lowest.{some-member}
 use Rattle.sets.proofs.First.{first-smallest, smallest-first}
 use Rattle.reading.specs.declared.Reason.{Reason}
-use Rattle.reading.specs.declared.Reason.the-variants.{WrongKind, LayerOutOfRange, ShortBuffer, FalsePartition, LiveOutsideFile, BadGoal, NoSelection, NoPlan}
-use Rattle.reading.specs.Reasons.{answers}
+use Rattle.reading.specs.declared.Reason.the-variants.{WrongKind, OutOfRange, ShortBuffer, FalsePartition, LiveOutsideFile, BadGoal, NoSelection, NoPlan}
+use Rattle.reading.specs.Reasons.{numberOf, answers}
 use Rattle.reading.specs.Got.{Got, got, refused}
 use Rattle.reading.specs.Items.{kindAt}
-use Rattle.jobfile.specs.Job.{Entry, Job, namesOf, size, order, horizon}
+use Rattle.jobfile.specs.Job.{Entry, Job, namesOf, size, wishCount, order, wishes, clashes, horizon}
 use Rattle.jobfile.specs.Read.{read, choices, fittings, either, readJob}
 use Rattle.jobfile.specs.Write.{write}
 use Rattle.jobfile.specs.Valid.{Bytes}
 use Rattle.jobfile.proofs.Lawful.{then-got, refuse-got}
 use Rattle.jobfile.proofs.Theorems.{Known, exact}
+use Rattle.matching.specs.Same.{sameList, sameName, alike}
+use Rattle.matching.specs.Names.{lowestNamed}
+use Rattle.matching.proofs.SameLaws.{list-same, agree}
 use Rattle.network.specs.Network.{Network, networkOf, clash}
 use Rattle.network.specs.Groups.{misplaced, firstMisplaced}
 use Rattle.network.specs.Filter.{outside, badGoal, firstBad, setAside}
@@ -41,9 +43,9 @@ use Rattle.choice.specs.Choice.{selection}
 use Rattle.choice.proofs.Theorems.{none-exactly, the-smallest, set-aside}
 use Rattle.graph.specs.Rounds.{fittingOf, fewest}
 use Rattle.graph.proofs.PlanLaws.{fewest-none, fewest-some}
-use Rattle.lending.specs.Answers.{Answer, refusal, value, onJob, unless, unlessAt, passed, behind, found, accepted, leaving}
+use Rattle.lending.specs.Answers.{Answer, refusal, value, onJob, unless, unlessAt, passed, behind, found, Said, refusedBy, answered, said, accepted, leaving}
 use Rattle.lending.specs.Tests.{roomTest, layerTest, groupsTest, passTest, goalsTest}
-use Rattle.calls.specs.Demands.{Exactly, Refuses, Fault, FirstOf, Wrong, absentLayer, shortBuffer, Misplaced, falsePartition, absentArticle, Bad, wrongGoal, wrongGoals, ChoiceKept, PlanKept}
+use Rattle.calls.specs.Demands.{Exactly, Refuses, Says, Fault, FirstOf, Off, Wrong, absentLayer, shortBuffer, Misplaced, falsePartition, absentArticle, Bad, wrongGoal, wrongGoals, Has, Alike, ChoiceKept, PlanKept}
 use Rattle.calls.specs.Choose.{Chosen, chosenOr, chooseIn}
 use Rattle.calls.specs.Plan.{planIn, WordsIn}
 use Rattle.calls.proofs.ReasonLaws.{file-no-answer}
@@ -53,46 +55,66 @@ use Rattle.calls.proofs.ReasonLaws.{file-no-answer}
 pub exactly-then : {A B C : Type 0} → Exactly A B → Exactly B C → Exactly A C
 exactly-then f g = (λ a. g .0 (f .0 a), λ c. f .1 (g .1 c))
 
-same-reason : {A : Type 0} {r s : Reason} {p q : ℕ} → _≡_ {A = Answer A} (refusal r p) (refusal s q) → r ≡ s
-same-reason e = cc
+same-number : {A : Type 0} {m n p q : ℕ} → _≡_ {A = Said A} (refusedBy m p) (refusedBy n q) → m ≡ n
+same-number e = cc
 
-same-place : {A : Type 0} {r s : Reason} {p q : ℕ} → _≡_ {A = Answer A} (refusal r p) (refusal s q) → p ≡ q
+same-place : {A : Type 0} {m n p q : ℕ} → _≡_ {A = Said A} (refusedBy m p) (refusedBy n q) → p ≡ q
 same-place e = cc
 
-no-refusal : {A : Type 0} {x : A} {r : Reason} {p : ℕ} → value x ≡ refusal r p → ⊥
+one-value : {A : Type 0} {x y : A} → _≡_ {A = Said A} (answered x) (answered y) → x ≡ y
+one-value e = cc
+
+no-refusal : {A : Type 0} {x : A} {n p : ℕ} → answered x ≡ refusedBy n p → ⊥
 no-refusal e = let z : _≡_ {A = ℕ} 0 1 = cc in omega arith
 
 -- ---- answers by the faults that turn a call down
 
+-- input that is accepted is not turned down
+taken-not : {A : Type 0} (s : Said A) → accepted s ≡ true → (number place : ℕ) → Refuses s number place → ⊥
+taken-not (refusedBy n p) t number place w = true≢false (sym t ∙ ap answers (same-number (w .0)) ∙ w .1)
+taken-not (answered x) t number place w = no-refusal (w .0)
+
+-- and input that is not turned down is accepted
+not-turned-down : {A : Type 0} (s : Said A) → ((number place : ℕ) → Refuses s number place → ⊥) → accepted s ≡ true
+not-turned-down (refusedBy n p) h = go (answers n) refl
+  where
+    go : (t : Bool) → answers n ≡ t → answers n ≡ true
+    go true e = e
+    go false e = absurd (h n p (refl, e))
+not-turned-down (answered x) h = refl
+
+-- so it is accepted exactly where none of the ways in which a call is turned down is there
+pub accepted-exactly : {A : Type 0} (s : Said A) {W : ℕ → ℕ → Type 0} → ((number place : ℕ) → Exactly (Refuses s number place) (W number place)) → Exactly (accepted s ≡ true) ((number place : ℕ) → W number place → ⊥)
+accepted-exactly s h = (λ t number place w. taken-not s t number place (h number place .1 w), λ none. not-turned-down s (λ number place r. none number place (h number place .0 r)))
+
 -- a call is turned down exactly for the first of these faults
 pub record Tests {A : Type 0} (a : Answer A) (faults : List Fault) : Type 0 where
-  pub exactly : (reason : Reason) (place : ℕ) → Exactly (Refuses a reason place) (FirstOf faults reason place)
+  pub exactly : (number place : ℕ) → Exactly (Refuses (said a) number place) (FirstOf faults number place)
 
 -- an answer to input that is accepted has no fault
-pub tests-end : {A : Type 0} (a : Answer A) → accepted a ≡ true → Tests a []
-tests-end (refusal r p) t = record { exactly = λ reason place. (λ w. true≢false (sym t ∙ ap answers (same-reason (w .0)) ∙ w .1), λ w. absurd w) }
-tests-end (value x) t = record { exactly = λ reason place. (λ w. no-refusal (w .0), λ w. absurd w) }
+pub tests-end : {A : Type 0} (a : Answer A) → accepted (said a) ≡ true → Tests a []
+tests-end a t = record { exactly = λ number place. (λ w. taken-not (said a) t number place w, λ w. absurd w) }
 
 -- Tests that stand together look for these faults. Where a call accepts its input, what it answers is what stands behind them; and it is turned
 -- down exactly for the first of these faults and, behind them, of those that what stands behind them is turned down for.
 pub record Checks (t : Answer (Unit {0})) (faults : List Fault) : Type 1 where
-  pub passes : {A : Type 0} (a : Answer A) → accepted (behind t a) ≡ true → behind t a ≡ a
+  pub passes : {A : Type 0} (a : Answer A) → accepted (said (behind t a)) ≡ true → behind t a ≡ a
   pub tests : {A : Type 0} {a : Answer A} {more : List Fault} → Tests a more → Tests (behind t a) (faults ++ more)
 
 checks-passed : Checks passed []
 checks-passed = record { passes = λ a e. refl; tests = λ h. h }
 
 -- a test that finds the place of a fault
-checks-at : (o : Option ℕ) (At : ℕ → Type 0) (r : Reason) {t : Answer (Unit {0})} {faults : List Fault} → answers r ≡ false → ((u : ℕ) → Exactly (o ≡ some u) (At u)) → Checks t faults
-    → Checks (unlessAt o r t) (record { At = At; reason = r } ∷ faults)
+checks-at : (o : Option ℕ) (At : ℕ → Type 0) (r : Reason) {t : Answer (Unit {0})} {faults : List Fault} → answers (numberOf r) ≡ false → ((u : ℕ) → Exactly (o ≡ some u) (At u)) → Checks t faults
+    → Checks (unlessAt o r t) (record { At = At; number = numberOf r } ∷ faults)
 checks-at (some u) At r stops h c =
     record {
       passes = λ a e. absurd (true≢false (sym e ∙ stops));
       tests = λ rest. record {
-        exactly = λ reason place. (
-          λ w. inl (sym (same-reason (w .0)), h place .0 (ap some (same-place (w .0)))),
+        exactly = λ number place. (
+          λ w. inl (sym (same-number (w .0)), h place .0 (ap some (same-place (w .0)))),
           ⊎-elim
-              (λ w. (ap₂ refusal (sym (w .0)) (Option·some-injective u place (h place .1 (w .1))), ap answers (w .0) ∙ stops))
+              (λ w. (ap₂ refusedBy (sym (w .0)) (Option·some-injective u place (h place .1 (w .1))), ap answers (w .0) ∙ stops))
               (λ w. absurd (w .0 u (h u .0 refl))),
         );
       };
@@ -101,27 +123,27 @@ checks-at none At r stops h c =
     record {
       passes = λ a e. c .passes a e;
       tests = λ rest. record {
-        exactly = λ reason place. (
-          λ w. inr (λ p at. Option·none-ne-some p (h p .1 at), c .tests rest .exactly reason place .0 w),
-          ⊎-elim (λ w. absurd (Option·none-ne-some place (h place .1 (w .1)))) (λ w. c .tests rest .exactly reason place .1 (w .1)),
+        exactly = λ number place. (
+          λ w. inr (λ p at. Option·none-ne-some p (h p .1 at), c .tests rest .exactly number place .0 w),
+          ⊎-elim (λ w. absurd (Option·none-ne-some place (h place .1 (w .1)))) (λ w. c .tests rest .exactly number place .1 (w .1)),
         );
       };
     }
 
 -- a test whose fault has place 0
-checks-unless : (b : Bool) (P : Type 0) (r : Reason) {t : Answer (Unit {0})} {faults : List Fault} → answers r ≡ false → Exactly (b ≡ true) P → Checks t faults
-    → Checks (unless b r t) (record { At = λ p. (p ≡ 0) × P; reason = r } ∷ faults)
+checks-unless : (b : Bool) (P : Type 0) (r : Reason) {t : Answer (Unit {0})} {faults : List Fault} → answers (numberOf r) ≡ false → Exactly (b ≡ true) P → Checks t faults
+    → Checks (unless b r t) (record { At = λ p. (p ≡ 0) × P; number = numberOf r } ∷ faults)
 checks-unless true P r stops h c = checks-at (some 0) (λ p. (p ≡ 0) × P) r stops (λ u. (λ e. (sym (Option·some-injective 0 u e), h .0 refl), λ w. ap some (sym (w .0)))) c
 checks-unless false P r stops h c = checks-at none (λ p. (p ≡ 0) × P) r stops (λ u. (λ e. absurd (Option·none-ne-some u e), λ w. absurd (false≢true (h .1 (w .1))))) c
 
 -- where all tests pass, what stands behind them is answered
-pub both-pass : {t s : Answer (Unit {0})} {faults more : List Fault} → Checks t faults → Checks s more → {A : Type 0} (a : Answer A) → accepted (behind t (behind s a)) ≡ true → behind t (behind s a) ≡ a
-both-pass {s = s} c d a e = let p = c .passes (behind s a) e in p ∙ d .passes a (sym (ap accepted p) ∙ e)
+pub both-pass : {t s : Answer (Unit {0})} {faults more : List Fault} → Checks t faults → Checks s more → {A : Type 0} (a : Answer A) → accepted (said (behind t (behind s a))) ≡ true → behind t (behind s a) ≡ a
+both-pass {s = s} c d a e = let p = c .passes (behind s a) e in p ∙ d .passes a (sym (ap (λ b. accepted (said b)) p) ∙ e)
 
 -- ---- each fault, as its test finds it
 
 -- the first number that passes is the lowest that has the property
-first-exactly : (test : ℕ → Bool) (P : ℕ → Type 0) (n : ℕ) → ((u : ℕ) → Exactly (test u ≡ true) (P u)) → (u : ℕ) → Exactly (firstFrom test n 0 ≡ some u) ((u < n) × P u × ((v : ℕ) → v < u → P v → ⊥))
+pub first-exactly : (test : ℕ → Bool) (P : ℕ → Type 0) (n : ℕ) → ((u : ℕ) → Exactly (test u ≡ true) (P u)) → (u : ℕ) → Exactly (firstFrom test n 0 ≡ some u) ((u < n) × P u × ((v : ℕ) → v < u → P v → ⊥))
 first-exactly test P n h u = (to, back)
   where
     Here : ℕ → Type 0
@@ -211,7 +233,7 @@ room-checks buffer size = checks-unless (ltb (length buffer) size) (length buffe
 
 pub layer-checks : (k lowest highest : ℕ) (buffer : List ℕ) (size : ℕ) → Checks (layerTest k lowest highest (length buffer) size) (absentLayer k lowest highest ∷ shortBuffer buffer size ∷ [])
 layer-checks k lowest highest buffer size =
-    checks-unless (ltb k lowest || ltb highest k) ((k < lowest) ⊎ (highest < k)) LayerOutOfRange refl (either-exactly (below-exactly k lowest) (below-exactly highest k)) (room-checks buffer size)
+    checks-unless (ltb k lowest || ltb highest k) ((k < lowest) ⊎ (highest < k)) OutOfRange refl (either-exactly (below-exactly k lowest) (below-exactly highest k)) (room-checks buffer size)
 
 pub groups-checks : (N : Network) (groups : List ℕ) → Checks (groupsTest N groups) (shortBuffer groups (N .articles) ∷ falsePartition N groups ∷ [])
 unfolding firstMisplaced
@@ -236,56 +258,59 @@ goals-checks order goals =
 -- ---- a call on a file
 
 module _ (takes : ℕ → Bool) (file : List ℕ) {A : Type 0} (call : Job (List ℕ) → Answer A) where
-  abbrev on : Got (Job (List ℕ)) → Answer A
-  on g = onJob g call
+  abbrev on : Got (Job (List ℕ)) → Said A
+  on g = said (onJob g call)
 
   -- the file is refused, or the call is turned down on its job
-  pub file-exactly : (reason : Reason) (place : ℕ) (Found : Job (List ℕ) → Type 0) → ((job : Job (List ℕ)) → Exactly (Refuses (call job) reason place) (Found job))
-      → Exactly (Refuses (on (readJob takes file)) reason place) ((readJob takes file ≡ refused reason place) ⊎ ((job : Job (List ℕ)) × (end : ℕ) × (readJob takes file ≡ got job end) × Found job))
-  file-exactly reason place Found h = (to (readJob takes file) refl, ⊎-elim (λ e. (ap on e, file-no-answer takes file e)) (λ w. back w))
+  pub file-exactly : (number place : ℕ) (Found : Job (List ℕ) → Type 0) → ((job : Job (List ℕ)) → Exactly (Refuses (said (call job)) number place) (Found job))
+      → Exactly (Refuses (on (readJob takes file)) number place) (Off takes file number place ⊎ ((job : Job (List ℕ)) × (end : ℕ) × (readJob takes file ≡ got job end) × Found job))
+  file-exactly number place Found h = (to (readJob takes file) refl, ⊎-elim off (λ w. back w))
     where
-      to : (g : Got (Job (List ℕ))) → readJob takes file ≡ g → Refuses (on g) reason place → (readJob takes file ≡ refused reason place) ⊎ ((job : Job (List ℕ)) × (end : ℕ) × (readJob takes file ≡ got job end) × Found job)
-      to (refused r p) e w = inl (e ∙ ap₂ refused (same-reason (w .0)) (same-place (w .0)))
+      to : (g : Got (Job (List ℕ))) → readJob takes file ≡ g → Refuses (on g) number place → Off takes file number place ⊎ ((job : Job (List ℕ)) × (end : ℕ) × (readJob takes file ≡ got job end) × Found job)
+      to (refused r p) e w = inl (r, e ∙ ap (λ (q : ℕ). refused r q) (same-place (w .0)), same-number (w .0))
       to (got job end) e w = inr (job, end, e, h job .0 w)
 
-      back : (job : Job (List ℕ)) × (end : ℕ) × (readJob takes file ≡ got job end) × Found job → Refuses (on (readJob takes file)) reason place
+      off : Off takes file number place → Refuses (on (readJob takes file)) number place
+      off (reason, e, n) = (ap on e ∙ ap (λ (k : ℕ). refusedBy k place) n, ap answers (sym n) ∙ file-no-answer takes file e)
+
+      back : (job : Job (List ℕ)) × (end : ℕ) × (readJob takes file ≡ got job end) × Found job → Refuses (on (readJob takes file)) number place
       back (job, end, e, w) = let (r, s) = h job .1 w in (ap on e ∙ r, s)
 
-  pub file-tests : {faults : Job (List ℕ) → List Fault} → ((job : Job (List ℕ)) → Tests (call job) (faults job)) → (reason : Reason) (place : ℕ)
-      → Exactly (Refuses (on (readJob takes file)) reason place) (Wrong takes file faults reason place)
-  file-tests {faults} h reason place = file-exactly reason place (λ job. FirstOf (faults job) reason place) (λ job. h job .exactly reason place)
+  pub file-tests : {faults : Job (List ℕ) → List Fault} → ((job : Job (List ℕ)) → Tests (call job) (faults job)) → (number place : ℕ)
+      → Exactly (Refuses (on (readJob takes file)) number place) (Wrong takes file faults number place)
+  file-tests {faults} h number place = file-exactly number place (λ job. FirstOf (faults job) number place) (λ job. h job .exactly number place)
 
   -- where a call accepts its input, the file states a job, and the call is the one on that job
-  pub file-taken : accepted (on (readJob takes file)) ≡ true → (job : Job (List ℕ)) × (end : ℕ) × (readJob takes file ≡ got job end) × (on (readJob takes file) ≡ call job) × (accepted (call job) ≡ true)
+  pub file-taken : accepted (on (readJob takes file)) ≡ true → (job : Job (List ℕ)) × (end : ℕ) × (readJob takes file ≡ got job end) × (onJob (readJob takes file) call ≡ call job) × (accepted (said (call job)) ≡ true)
   file-taken t = go (readJob takes file) refl t
     where
-      go : (g : Got (Job (List ℕ))) → readJob takes file ≡ g → accepted (on g) ≡ true → (job : Job (List ℕ)) × (end : ℕ) × (readJob takes file ≡ got job end) × (on (readJob takes file) ≡ call job) × (accepted (call job) ≡ true)
+      go : (g : Got (Job (List ℕ))) → readJob takes file ≡ g → accepted (on g) ≡ true → (job : Job (List ℕ)) × (end : ℕ) × (readJob takes file ≡ got job end) × (onJob (readJob takes file) call ≡ call job) × (accepted (said (call job)) ≡ true)
       go (refused reason place) e t = absurd (false≢true (sym (file-no-answer takes file e) ∙ t))
-      go (got job end) e t = (job, end, e, ap on e, t)
+      go (got job end) e t = (job, end, e, ap (λ g. onJob g call) e, t)
 
 -- a file that is refused is the only fault of a call whose other arguments have none
-pub file-only : (takes : ℕ → Bool) (file : List ℕ) (reason : Reason) (place : ℕ) → Exactly (Wrong takes file (λ job. []) reason place) (readJob takes file ≡ refused reason place)
-file-only takes file reason place = (⊎-elim (λ e. e) (λ w. absurd (w .3)), λ e. inl e)
+pub file-only : (takes : ℕ → Bool) (file : List ℕ) (number place : ℕ) → Exactly (Wrong takes file (λ job. []) number place) (Off takes file number place)
+file-only takes file number place = (⊎-elim (λ e. e) (λ w. absurd (w .3)), λ e. inl e)
 
 -- ---- a call that writes
 
 module _ {A B : Type 0} (words : A → List ℕ) (told : A → B) (old : List ℕ) where
   -- it is turned down as what it writes is
-  pub left-exactly : (a : Answer A) (reason : Reason) (place : ℕ) → Exactly (Refuses (leaving words told old a .answer) reason place) (Refuses a reason place)
-  left-exactly (refusal r p) reason place = (λ w. (ap₂ refusal (same-reason (w .0)) (same-place (w .0)), w .1), λ w. (ap₂ refusal (same-reason (w .0)) (same-place (w .0)), w .1))
-  left-exactly (value x) reason place = (λ w. absurd (no-refusal (w .0)), λ w. absurd (no-refusal (w .0)))
+  pub left-exactly : (a : Answer A) (number place : ℕ) → Exactly (Refuses (leaving words told old a .answer) number place) (Refuses (said a) number place)
+  left-exactly (refusal r p) number place = (λ w. (ap₂ refusedBy (same-number (w .0)) (same-place (w .0)), w .1), λ w. (ap₂ refusedBy (same-number (w .0)) (same-place (w .0)), w .1))
+  left-exactly (value x) number place = (λ w. absurd (no-refusal (w .0)), λ w. absurd (no-refusal (w .0)))
 
-  pub left-taken : (a : Answer A) → accepted (leaving words told old a .answer) ≡ accepted a
+  pub left-taken : (a : Answer A) → accepted (leaving words told old a .answer) ≡ accepted (said a)
   left-taken (refusal r p) = refl
   left-taken (value x) = refl
 
   -- where it is turned down, nothing is written
-  pub left-kept : (a : Answer A) {reason : Reason} {place : ℕ} → leaving words told old a .answer ≡ refusal reason place → leaving words told old a .buffer ≡ old
+  pub left-kept : (a : Answer A) {number place : ℕ} → leaving words told old a .answer ≡ refusedBy number place → leaving words told old a .buffer ≡ old
   left-kept (refusal r p) e = refl
   left-kept (value x) e = absurd (no-refusal e)
 
   -- where it is accepted, n words are written in front
-  pub left-value : {a : Answer A} {x : A} {n : ℕ} → a ≡ value x → length (words x) ≡ n → (leaving words told old a .answer ≡ value (told x)) × (leaving words told old a .buffer ≡ words x ++ drop n old)
+  pub left-value : {a : Answer A} {x : A} {n : ℕ} → a ≡ value x → length (words x) ≡ n → (leaving words told old a .answer ≡ answered (told x)) × (leaving words told old a .buffer ≡ words x ++ drop n old)
   left-value {x = x} e l = (ap (λ (a : Answer A). leaving words told old a .answer) e, ap (λ (a : Answer A). leaving words told old a .buffer) e ∙ ap (λ (n : ℕ). words x ++ drop n old) l)
 
 -- ---- what an accepted file states
@@ -318,63 +343,108 @@ name-past (x ∷ entries) (suc i) l = name-past entries i (omega arith)
 -- ---- the choice
 
 -- "no selection" is an answer to input that is accepted, and no value is it
-pub chosen-taken : (o : Option ℕ) (aside : ℕ) → accepted (chosenOr o aside) ≡ true
+pub chosen-taken : (o : Option ℕ) (aside : ℕ) → accepted (said (chosenOr o aside)) ≡ true
 chosen-taken none aside = refl
 chosen-taken (some x) aside = refl
 
-pub chosen-none : (o : Option ℕ) (aside : ℕ) → Exactly (chosenOr o aside ≡ refusal NoSelection 0) (o ≡ none)
-chosen-none none aside = (λ e. refl, λ e. refl)
-chosen-none (some x) aside = (λ e. absurd (no-refusal e), λ e. absurd (Option·none-ne-some x (sym e)))
+pub chosen-none : (o : Option ℕ) (aside : ℕ) → Exactly (Says (said (chosenOr o aside)) 14) (o ≡ none)
+chosen-none none aside = (λ w. refl, λ e. (0, refl))
+chosen-none (some x) aside = (λ w. absurd (no-refusal (w .1)), λ e. absurd (Option·none-ne-some x (sym e)))
 
 module _ (groups goals : List ℕ) (floor : ℕ) where
   abbrev group : ℕ → ℕ
   group u = getD groups u 0
 
-  pub choice-is : (job : Job (List ℕ)) → accepted (chooseIn job groups goals floor) ≡ true
+  pub choice-is : (job : Job (List ℕ)) → accepted (said (chooseIn job groups goals floor)) ≡ true
       → chooseIn job groups goals floor ≡ chosenOr (selection (networkOf job) (order job) floor) (setAside (networkOf job) group goals)
   choice-is job t = both-pass (groups-checks (networkOf job) groups) (goals-checks (order job) goals) (chosenOr (selection (networkOf job) (order job) floor) (setAside (networkOf job) group goals)) t
 
   -- short groups, a false partition and a bad goal are not accepted, so the filter and the search had what they ask for
-  pub choice-kept : (job : Job (List ℕ)) → accepted (chooseIn job groups goals floor) ≡ true → ChoiceKept job group goals floor (chooseIn job groups goals floor)
+  pub choice-kept : (job : Job (List ℕ)) → accepted (said (chooseIn job groups goals floor)) ≡ true → ChoiceKept job group goals floor (said (chooseIn job groups goals floor))
   choice-kept job t = go (ltb (length groups) (size job)) (firstMisplaced (networkOf job) group) (firstBad (order job) goals) (selection (networkOf job) (order job) floor) refl refl refl t
     where
       answer : Bool → Option ℕ → Option ℕ → Option ℕ → Answer Chosen
       answer short misplaced bad s = behind (unless short ShortBuffer (unlessAt misplaced FalsePartition passed)) (behind (unlessAt bad BadGoal passed) (chosenOr s (setAside (networkOf job) group goals)))
 
       go : (short : Bool) (misplaced bad s : Option ℕ) → firstMisplaced (networkOf job) group ≡ misplaced → firstBad (order job) goals ≡ bad → selection (networkOf job) (order job) floor ≡ s
-          → accepted (answer short misplaced bad s) ≡ true → ChoiceKept job group goals floor (answer short misplaced bad s)
+          → accepted (said (answer short misplaced bad s)) ≡ true → ChoiceKept job group goals floor (said (answer short misplaced bad s))
       go true misplaced bad s p q e t = absurd (false≢true t)
       go false (some u) bad s p q e t = absurd (false≢true t)
       go false none (some i) s p q e t = absurd (false≢true t)
-      go false none none none p q e t = (refl, none-exactly (networkOf job) (order job) floor e)
+      go false none none none p q e t = (refl, refl, none-exactly (networkOf job) (order job) floor e)
       go false none none (some x) p q e t = (the-smallest (networkOf job) (order job) floor x e, refl, set-aside (networkOf job) group (lent-right (networkOf job) group p) goals (goals-within (order job) goals q))
 
 -- ---- the planner, and finding by name
 
-pub found-taken : {A : Type 0} (o : Option A) (r : Reason) → answers r ≡ true → accepted (found o r) ≡ true
+pub found-taken : {A : Type 0} (o : Option A) (r : Reason) → answers (numberOf r) ≡ true → accepted (said (found o r)) ≡ true
 found-taken none r t = t
 found-taken (some x) r t = refl
 
-pub found-none : {A : Type 0} (o : Option A) (r : Reason) → Exactly (found o r ≡ refusal r 0) (o ≡ none)
-found-none none r = (λ e. refl, λ e. refl)
-found-none (some x) r = (λ e. absurd (no-refusal e), λ e. absurd (Option·none-ne-some x (sym e)))
+pub found-none : {A : Type 0} (o : Option A) (r : Reason) → Exactly (Says (said (found o r)) (numberOf r)) (o ≡ none)
+found-none none r = (λ w. refl, λ e. (0, refl))
+found-none (some x) r = (λ w. absurd (no-refusal (w .1)), λ e. absurd (Option·none-ne-some x (sym e)))
 
-pub plan-is : (buffer : List ℕ) (job : Job (List ℕ)) → accepted (planIn job buffer) ≡ true → planIn job buffer ≡ found (fewest (fittingOf job) (horizon job)) NoPlan
+pub found-some : {A : Type 0} (o : Option A) (r : Reason) (x : A) → Exactly (said (found o r) ≡ answered x) (o ≡ some x)
+found-some none r x = (λ e. absurd (no-refusal (sym e)), λ e. absurd (Option·none-ne-some x e))
+found-some (some y) r x = (λ e. ap some (one-value e), λ e. ap answered (Option·some-injective y x e))
+
+-- the lowest number with a name
+pub lowest-exactly : (name : List ℕ) (job : Job (List ℕ)) (i : ℕ)
+    → Exactly (lowestNamed name (size job) (λ i. getD (namesOf (job .entries)) i []) ≡ some i) (Has job name i × ((j : ℕ) → j < i → Has job name j → ⊥))
+lowest-exactly [] job i = (λ e. absurd (Option·none-ne-some i e), λ w. absurd (w .0 .0 refl))
+lowest-exactly (b ∷ bs) job i = (to, back)
+  where
+    names : ℕ → List ℕ
+    names j = getD (namesOf (job .entries)) j []
+
+    some-byte : (b ∷ bs) ≡ [] → ⊥
+    some-byte e = let z : _≡_ {A = ℕ} 0 1 = cc in omega arith
+
+    first : Exactly (firstFrom (λ j. sameName (names j) (b ∷ bs)) (size job) 0 ≡ some i) ((i < size job) × (names i ≡ b ∷ bs) × ((j : ℕ) → j < i → names j ≡ b ∷ bs → ⊥))
+    first = first-exactly (λ j. sameName (names j) (b ∷ bs)) (λ j. names j ≡ b ∷ bs) (size job) (λ j. (list-same (names j) (b ∷ bs), λ e. sym (agree (names j) (b ∷ bs) e))) i
+
+    to : firstFrom (λ j. sameName (names j) (b ∷ bs)) (size job) 0 ≡ some i → Has job (b ∷ bs) i × ((j : ℕ) → j < i → Has job (b ∷ bs) j → ⊥)
+    to e = let (l, p, least) = first .0 e in ((some-byte, l, p), λ j k w. least j k (w .2))
+
+    back : Has job (b ∷ bs) i × ((j : ℕ) → j < i → Has job (b ∷ bs) j → ⊥) → firstFrom (λ j. sameName (names j) (b ∷ bs)) (size job) 0 ≡ some i
+    back ((s, l, p), least) = first .1 (l, p, λ j k q. least j k (some-byte, omega arith, q))
+
+-- ---- comparing
+
+pub alike-exactly : (a b : Job (List ℕ)) → Exactly (alike a b ≡ true) (Alike a b)
+alike-exactly a b = (to, back)
+  where
+    to : alike a b ≡ true → Alike a b
+    to e =
+        let (p, e1) = both-true (eqb (size a) (size b)) _ e in
+        let (q, e2) = both-true (eqb (wishCount a) (wishCount b)) _ e1 in
+        let (r, e3) = both-true (eqb (order a) (order b)) _ e2 in
+        let (s, t) = both-true (sameList (wishes a) (wishes b)) _ e3 in
+        (eqb-true _ _ p, eqb-true _ _ q, eqb-true _ _ r, list-same (wishes a) (wishes b) s, list-same (clashes a) (clashes b) t)
+
+    back : Alike a b → alike a b ≡ true
+    back (p, q, r, s, t) =
+        true-both (eqb (size a) (size b)) _ (eq-eqb _ _ p)
+        (true-both (eqb (wishCount a) (wishCount b)) _ (eq-eqb _ _ q)
+        (true-both (eqb (order a) (order b)) _ (eq-eqb _ _ r)
+        (true-both (sameList (wishes a) (wishes b)) _ (sym (agree (wishes a) (wishes b) s)) (sym (agree (clashes a) (clashes b) t)))))
+
+pub plan-is : (buffer : List ℕ) (job : Job (List ℕ)) → accepted (said (planIn job buffer)) ≡ true → planIn job buffer ≡ found (fewest (fittingOf job) (horizon job)) NoPlan
 plan-is buffer job t = room-checks buffer (horizon job) .passes (found (fewest (fittingOf job) (horizon job)) NoPlan) t
 
-module _ (old new : List ℕ) (same : length new ≡ length old) where
-  -- a short buffer is not accepted
-  pub plan-kept : (job : Job (List ℕ)) → accepted (planIn job old) ≡ true → WordsIn (fittingOf job) old new (planIn job old) → PlanKept job old new (planIn job old)
-  plan-kept job t w = go (ltb (length old) (horizon job)) (fewest (fittingOf job) (horizon job)) refl refl t w
+-- a front that has as many elements as were asked for
+front-whole : (k : ℕ) (l : List ℕ) → k ≤ length (take k l) → length (take k l) ≡ k
+front-whole k l h = le-antisymm (subst (λ (n : ℕ). n ≤ k) (sym (length-take k l)) (min-le-left k (length l))) h
+
+module _ (old new : List ℕ) where
+  -- a short buffer is not accepted; no plan has fewer rounds, so there are as many words as are answered
+  pub plan-kept : (job : Job (List ℕ)) → accepted (said (planIn job old)) ≡ true → WordsIn (fittingOf job) old new (planIn job old) → PlanKept job old new (said (planIn job old))
+  plan-kept job t w = go (ltb (length old) (horizon job)) (fewest (fittingOf job) (horizon job)) refl t w
     where
       answer : Bool → Option ℕ → Answer ℕ
       answer short k = behind (unless short ShortBuffer passed) (found k NoPlan)
 
-      go : (short : Bool) (k : Option ℕ) → ltb (length old) (horizon job) ≡ short → fewest (fittingOf job) (horizon job) ≡ k → accepted (answer short k) ≡ true
-          → WordsIn (fittingOf job) old new (answer short k) → PlanKept job old new (answer short k)
-      go true k p e t w = absurd (false≢true t)
-      go false none p e t w = (refl, fewest-none (fittingOf job) (horizon job) e, w)
-      go false (some k) p e t (plan, keep) =
-          let (l, made, least) = fewest-some (fittingOf job) (horizon job) k e in
-          let room : horizon job ≤ length old = ltb-false (length old) (horizon job) p in
-          (l, length-take-le k new (omega (arith, same)), plan, least, keep)
+      go : (short : Bool) (k : Option ℕ) → fewest (fittingOf job) (horizon job) ≡ k → accepted (said (answer short k)) ≡ true → WordsIn (fittingOf job) old new (answer short k) → PlanKept job old new (said (answer short k))
+      go true k e t w = absurd (false≢true t)
+      go false none e t w = (refl, refl, fewest-none (fittingOf job) (horizon job) e, w)
+      go false (some k) e t (plan, keep) = let (l, made, least) = fewest-some (fittingOf job) (horizon job) k e in (l, front-whole k new (least (take k new) plan), plan, least, keep)

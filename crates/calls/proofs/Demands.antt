@@ -1,21 +1,23 @@
--- The user's demands, clause by clause and in the user's order, over file bytes, arguments, answers and buffers of the open calls. An answer `a` of
--- a call is what its contract says (`partitionOf`, `passOf`, ..: each call's contract is an equation with it). Assumes nothing.
+-- The user's demands, clause by clause and in the user's order, over file bytes, arguments, answers and buffers of the open calls. What a call says
+-- is what its contract states (`said (passOf ..)`, `partitionOf .. .answer`, ..: each call's contract is an equation with it). Assumes nothing.
 use mathlib.Core.Path.{_≡_, refl, sym, ap, _∙_, subst}
 use mathlib.Core.Logic.{_⊎_}
 use mathlib.Core.Bool.{Bool, true, false}
 use mathlib.Core.List.{List, [], _∷_, _++_}
-use Prim.Native.Nat.{ℕ, _≤_}
+use Prim.Native.Nat.{ℕ, _≤_, _<_}
 use native.Mathlib.Omega.{arith}
-use lib.ListN.{length, getD, drop}
+use lib.ListN.{length, getD, take, drop}
 use Rattle.reading.specs.declared.Reason.{Reason}
-use Rattle.reading.specs.declared.Reason.the-variants.{NoSelection, NoPlan, NameNotFound}
-use Rattle.reading.specs.Reasons.{numberOf, answers}
+use Rattle.reading.specs.declared.Reason.the-variants.{NoPlan, NameNotFound}
+use Rattle.reading.specs.Reasons.{numberOf}
 use Rattle.reading.specs.Got.{Got, got, refused}
 use Rattle.jobfile.specs.Job.{Job, namesOf, size, order, horizon}
-use Rattle.jobfile.specs.Read.{readJob, choices, fittings, either}
+use Rattle.jobfile.specs.Read.{read, readJob, choices, fittings, either}
 use Rattle.jobfile.specs.Write.{write}
 use Rattle.jobfile.specs.Valid.{Bytes, Valid}
-use Rattle.jobfile.specs.Answers.{nameIn}
+use Rattle.jobfile.specs.Answers.{spotIn, nameIn}
+use Rattle.jobfile.proofs.NamingLaws.{name-at-spot}
+use Rattle.reading.specs.Items.{spots}
 use Rattle.jobfile.proofs.Theorems.{Known, exact-and-valid, read-back, one-writing}
 use Rattle.matching.specs.Names.{lowestNamed}
 use Rattle.matching.specs.Same.{alike}
@@ -29,17 +31,18 @@ use Rattle.graph.specs.Rounds.{fittingOf, Plan, fewest}
 use Rattle.graph.specs.Layers.{factLayer, roundLayer}
 use Rattle.graph.proofs.PlanLaws.{fewest-none, none-fewest}
 use Rattle.layering.proofs.LayerCode.{facts-length, rounds-length}
-use Rattle.lending.specs.Answers.{Answer, refusal, value, onJob, accepted}
+use Rattle.lending.specs.Answers.{Answer, refusal, value, onJob, Said, refusedBy, answered, said, accepted}
 use Rattle.calls.specs.Partition.{partitionIn, partitionOf}
 use Rattle.calls.specs.Pass.{passIn, passOf}
 use Rattle.calls.specs.Choose.{chosenOr, chooseIn, chooseOf}
 use Rattle.calls.specs.Layers.{factLayerIn, factLayerOf, roundLayerIn, roundLayerOf}
 use Rattle.calls.specs.Plan.{planIn, planOf, WordsIn, Buffer}
+use Rattle.calls.specs.Name.{nameOf}
 use Rattle.calls.specs.Find.{findIn, findOf}
 use Rattle.calls.specs.Compare.{compareOf}
-use Rattle.calls.specs.Demands.{Exactly, Refuses, Wrong, absentLayer, shortBuffer, falsePartition, absentArticle, wrongGoal, wrongGoals, ChoiceKept, PlanKept}
+use Rattle.calls.specs.Demands.{Exactly, Refuses, Says, Off, Wrong, absentLayer, shortBuffer, falsePartition, absentArticle, wrongGoal, wrongGoals, Has, Alike, ChoiceKept, PlanKept}
 use Rattle.calls.proofs.ReasonLaws.{file-reason}
-use Rattle.calls.proofs.DemandLaws.{exactly-then, tests-end, both-pass, room-checks, layer-checks, groups-checks, pass-checks, goals-checks, file-exactly, file-tests, file-taken, file-only, left-exactly, left-taken, left-kept, left-value, either-known, kind-taken, name-past, chosen-taken, chosen-none, choice-is, choice-kept, found-taken, found-none, plan-is, plan-kept}
+use Rattle.calls.proofs.DemandLaws.{exactly-then, tests-end, accepted-exactly, both-pass, room-checks, layer-checks, groups-checks, pass-checks, goals-checks, file-exactly, file-tests, file-taken, file-only, left-exactly, left-taken, left-kept, left-value, either-known, kind-taken, name-past, chosen-taken, chosen-none, choice-is, choice-kept, found-taken, found-none, found-some, lowest-exactly, alike-exactly, plan-is, plan-kept}
 
 -- ---- demand 1
 
@@ -61,98 +64,134 @@ demand-1-file-numbers takes file e = file-reason takes file e
 
 -- "articles or layers that the file lacks, short buffers, false partitions and projection goals that are empty or outside the order, each by its
 -- number and place": a call turns its input down exactly for the first of these, the file before the arguments, and the arguments by the numbers
-pub demand-1-partition : (file buffer : List ℕ) (reason : Reason) (place : ℕ) → Exactly (Refuses (partitionOf file buffer .answer) reason place) (Wrong choices file (λ job. shortBuffer buffer (size job) ∷ []) reason place)
-demand-1-partition file buffer reason place =
-    exactly-then (left-exactly (λ groups. groups) (λ groups. tt) buffer (onJob (readJob choices file) (λ job. partitionIn job buffer)) reason place)
-    (file-tests choices file (λ job. partitionIn job buffer) (λ job. room-checks buffer (size job) .tests (tests-end (value (groupsTo (networkOf job) (size job))) refl)) reason place)
+pub demand-1-partition : (file buffer : List ℕ) (number place : ℕ) → Exactly (Refuses (partitionOf file buffer .answer) number place) (Wrong choices file (λ job. shortBuffer buffer (size job) ∷ []) number place)
+demand-1-partition file buffer number place =
+    exactly-then (left-exactly (λ groups. groups) (λ groups. tt) buffer (onJob (readJob choices file) (λ job. partitionIn job buffer)) number place)
+    (file-tests choices file (λ job. partitionIn job buffer) (λ job. room-checks buffer (size job) .tests (tests-end (value (groupsTo (networkOf job) (size job))) refl)) number place)
 
-pub demand-1-pass : (file groups : List ℕ) (live goal : ℕ) (reason : Reason) (place : ℕ)
-    → Exactly (Refuses (passOf file groups live goal) reason place) (Wrong choices file (λ job. shortBuffer groups (size job) ∷ falsePartition (networkOf job) groups ∷ absentArticle (size job) live ∷ wrongGoal (order job) goal ∷ []) reason place)
+pub demand-1-pass : (file groups : List ℕ) (live goal : ℕ) (number place : ℕ)
+    → Exactly (Refuses (said (passOf file groups live goal)) number place) (Wrong choices file (λ job. shortBuffer groups (size job) ∷ falsePartition (networkOf job) groups ∷ absentArticle (size job) live ∷ wrongGoal (order job) goal ∷ []) number place)
 demand-1-pass file groups live goal =
     file-tests choices file (λ job. passIn job groups live goal) (λ job.
     groups-checks (networkOf job) groups .tests
     (pass-checks (size job) (order job) live goal .tests (tests-end (value (pass (networkOf job) (λ u. getD groups u 0) live goal)) refl)))
 
-pub demand-1-choose : (file groups goals : List ℕ) (floor : ℕ) (reason : Reason) (place : ℕ)
-    → Exactly (Refuses (chooseOf file groups goals floor) reason place) (Wrong choices file (λ job. shortBuffer groups (size job) ∷ falsePartition (networkOf job) groups ∷ wrongGoals (order job) goals ∷ []) reason place)
+pub demand-1-choose : (file groups goals : List ℕ) (floor : ℕ) (number place : ℕ)
+    → Exactly (Refuses (said (chooseOf file groups goals floor)) number place) (Wrong choices file (λ job. shortBuffer groups (size job) ∷ falsePartition (networkOf job) groups ∷ wrongGoals (order job) goals ∷ []) number place)
 demand-1-choose file groups goals floor =
     file-tests choices file (λ job. chooseIn job groups goals floor) (λ job.
     groups-checks (networkOf job) groups .tests (goals-checks (order job) goals .tests (tests-end _ (chosen-taken (selection (networkOf job) (order job) floor) _))))
 
-pub demand-1-fact-layer : (file buffer : List ℕ) (k : ℕ) (reason : Reason) (place : ℕ)
-    → Exactly (Refuses (factLayerOf file k buffer .answer) reason place) (Wrong fittings file (λ job. absentLayer k 0 (horizon job) ∷ shortBuffer buffer 32 ∷ []) reason place)
-demand-1-fact-layer file buffer k reason place =
-    exactly-then (left-exactly (λ layer. layer .words) (λ layer. layer .members) buffer (onJob (readJob fittings file) (λ job. factLayerIn job k buffer)) reason place)
-    (file-tests fittings file (λ job. factLayerIn job k buffer) (λ job. layer-checks k 0 (horizon job) buffer 32 .tests (tests-end (value (factLayer 32 (fittingOf job) k)) refl)) reason place)
+pub demand-1-fact-layer : (file buffer : List ℕ) (k : ℕ) (number place : ℕ)
+    → Exactly (Refuses (factLayerOf file k buffer .answer) number place) (Wrong fittings file (λ job. absentLayer k 0 (horizon job) ∷ shortBuffer buffer 32 ∷ []) number place)
+demand-1-fact-layer file buffer k number place =
+    exactly-then (left-exactly (λ layer. layer .words) (λ layer. layer .members) buffer (onJob (readJob fittings file) (λ job. factLayerIn job k buffer)) number place)
+    (file-tests fittings file (λ job. factLayerIn job k buffer) (λ job. layer-checks k 0 (horizon job) buffer 32 .tests (tests-end (value (factLayer 32 (fittingOf job) k)) refl)) number place)
 
-pub demand-1-round-layer : (file buffer : List ℕ) (k : ℕ) (reason : Reason) (place : ℕ)
-    → Exactly (Refuses (roundLayerOf file k buffer .answer) reason place) (Wrong fittings file (λ job. absentLayer k 1 (horizon job) ∷ shortBuffer buffer 64 ∷ []) reason place)
-demand-1-round-layer file buffer k reason place =
-    exactly-then (left-exactly (λ layer. layer .words) (λ layer. layer .members) buffer (onJob (readJob fittings file) (λ job. roundLayerIn job k buffer)) reason place)
-    (file-tests fittings file (λ job. roundLayerIn job k buffer) (λ job. layer-checks k 1 (horizon job) buffer 64 .tests (tests-end (value (roundLayer 32 (fittingOf job) k)) refl)) reason place)
+pub demand-1-round-layer : (file buffer : List ℕ) (k : ℕ) (number place : ℕ)
+    → Exactly (Refuses (roundLayerOf file k buffer .answer) number place) (Wrong fittings file (λ job. absentLayer k 1 (horizon job) ∷ shortBuffer buffer 64 ∷ []) number place)
+demand-1-round-layer file buffer k number place =
+    exactly-then (left-exactly (λ layer. layer .words) (λ layer. layer .members) buffer (onJob (readJob fittings file) (λ job. roundLayerIn job k buffer)) number place)
+    (file-tests fittings file (λ job. roundLayerIn job k buffer) (λ job. layer-checks k 1 (horizon job) buffer 64 .tests (tests-end (value (roundLayer 32 (fittingOf job) k)) refl)) number place)
 
-pub demand-1-plan : (file buffer : List ℕ) (reason : Reason) (place : ℕ) → Exactly (Refuses (planOf file buffer) reason place) (Wrong fittings file (λ job. shortBuffer buffer (horizon job) ∷ []) reason place)
+pub demand-1-plan : (file buffer : List ℕ) (number place : ℕ) → Exactly (Refuses (said (planOf file buffer)) number place) (Wrong fittings file (λ job. shortBuffer buffer (horizon job) ∷ []) number place)
 demand-1-plan file buffer =
     file-tests fittings file (λ job. planIn job buffer) (λ job. room-checks buffer (horizon job) .tests (tests-end _ (found-taken (fewest (fittingOf job) (horizon job)) NoPlan refl)))
 
-pub demand-1-find : (file name : List ℕ) (reason : Reason) (place : ℕ) → Exactly (Refuses (findOf file name) reason place) (Wrong either file (λ job. []) reason place)
+pub demand-1-find : (file name : List ℕ) (number place : ℕ) → Exactly (Refuses (said (findOf file name)) number place) (Wrong either file (λ job. []) number place)
 demand-1-find file name = file-tests either file (λ job. findIn job name) (λ job. tests-end _ (found-taken (lowestNamed name (size job) (λ i. getD (namesOf (job .entries)) i [])) NameNotFound refl))
 
 -- the comparison: the first file, then the second
-pub demand-1-compare : (first second : List ℕ) (reason : Reason) (place : ℕ)
-    → Exactly (Refuses (compareOf first second) reason place) ((readJob choices first ≡ refused reason place) ⊎ ((job : Job (List ℕ)) × (end : ℕ) × (readJob choices first ≡ got job end) × (readJob choices second ≡ refused reason place)))
-demand-1-compare first second reason place =
-    file-exactly choices first (λ a. onJob (readJob choices second) (λ b. value (alike a b))) reason place (λ job. readJob choices second ≡ refused reason place) (λ a.
-    exactly-then (file-tests choices second (λ b. value (alike a b)) (λ b. tests-end (value (alike a b)) refl) reason place) (file-only choices second reason place))
+pub demand-1-compare : (first second : List ℕ) (number place : ℕ)
+    → Exactly (Refuses (said (compareOf first second)) number place) (Off choices first number place ⊎ ((job : Job (List ℕ)) × (end : ℕ) × (readJob choices first ≡ got job end) × Off choices second number place))
+demand-1-compare first second number place =
+    file-exactly choices first (λ a. onJob (readJob choices second) (λ b. value (alike a b))) number place (λ job. Off choices second number place) (λ a.
+    exactly-then (file-tests choices second (λ b. value (alike a b)) (λ b. tests-end (value (alike a b)) refl) number place) (file-only choices second number place))
 
 -- "with nothing written", 14 to 16 included
-pub demand-1-partition-kept : (file buffer : List ℕ) {reason : Reason} {place : ℕ} → partitionOf file buffer .answer ≡ refusal reason place → partitionOf file buffer .buffer ≡ buffer
+pub demand-1-partition-kept : (file buffer : List ℕ) {number place : ℕ} → partitionOf file buffer .answer ≡ refusedBy number place → partitionOf file buffer .buffer ≡ buffer
 demand-1-partition-kept file buffer e = left-kept (λ groups. groups) (λ groups. tt) buffer (onJob (readJob choices file) (λ job. partitionIn job buffer)) e
 
-pub demand-1-fact-layer-kept : (file buffer : List ℕ) (k : ℕ) {reason : Reason} {place : ℕ} → factLayerOf file k buffer .answer ≡ refusal reason place → factLayerOf file k buffer .buffer ≡ buffer
+pub demand-1-fact-layer-kept : (file buffer : List ℕ) (k : ℕ) {number place : ℕ} → factLayerOf file k buffer .answer ≡ refusedBy number place → factLayerOf file k buffer .buffer ≡ buffer
 demand-1-fact-layer-kept file buffer k e = left-kept (λ layer. layer .words) (λ layer. layer .members) buffer (onJob (readJob fittings file) (λ job. factLayerIn job k buffer)) e
 
-pub demand-1-round-layer-kept : (file buffer : List ℕ) (k : ℕ) {reason : Reason} {place : ℕ} → roundLayerOf file k buffer .answer ≡ refusal reason place → roundLayerOf file k buffer .buffer ≡ buffer
+pub demand-1-round-layer-kept : (file buffer : List ℕ) (k : ℕ) {number place : ℕ} → roundLayerOf file k buffer .answer ≡ refusedBy number place → roundLayerOf file k buffer .buffer ≡ buffer
 demand-1-round-layer-kept file buffer k e = left-kept (λ layer. layer .words) (λ layer. layer .members) buffer (onJob (readJob fittings file) (λ job. roundLayerIn job k buffer)) e
 
-pub demand-1-plan-kept : (file old new : List ℕ) {reason : Reason} {place : ℕ} → Buffer (readJob fittings file) old new (planOf file old) → planOf file old ≡ refusal reason place → new ≡ old
-demand-1-plan-kept file old new {reason} {place} b e = go (readJob fittings file) (planOf file old) b e
+pub demand-1-plan-kept : (file old new : List ℕ) {number place : ℕ} → Buffer (readJob fittings file) old new (planOf file old) → said (planOf file old) ≡ refusedBy number place → new ≡ old
+demand-1-plan-kept file old new {number} {place} b e = go (readJob fittings file) (planOf file old) b e
   where
-    go : (g : Got (Job (List ℕ))) (a : Answer ℕ) → Buffer g old new a → a ≡ refusal reason place → new ≡ old
+    go : (g : Got (Job (List ℕ))) (a : Answer ℕ) → Buffer g old new a → said a ≡ refusedBy number place → new ≡ old
     go (refused r p) a b e = b
-    go (got job end) a b e = subst (WordsIn (fittingOf job) old new) e b
+    go (got job end) (refusal r p) b e = b
+    go (got job end) (value k) b e = let z : _≡_ {A = ℕ} 0 1 = cc in absurd (omega arith)
 
 -- "only the call for a name gives an empty name in place of a number"
-pub demand-1-name : (file : List ℕ) (number : ℕ) {reason : Reason} {place : ℕ} → readJob either file ≡ refused reason place → nameIn (readJob either file) number ≡ []
+pub demand-1-name : (file : List ℕ) (number : ℕ) {reason : Reason} {place : ℕ} → readJob either file ≡ refused reason place → nameOf file number ≡ []
 demand-1-name file number e = ap (λ g. nameIn g number) e
 
-pub demand-1-name-absent : (file : List ℕ) (number : ℕ) → Bytes file → {job : Job (List ℕ)} {end : ℕ} → readJob either file ≡ got job end → size job ≤ number → nameIn (readJob either file) number ≡ []
+pub demand-1-name-absent : (file : List ℕ) (number : ℕ) → Bytes file → {job : Job (List ℕ)} {end : ℕ} → readJob either file ≡ got job end → size job ≤ number → nameOf file number ≡ []
 demand-1-name-absent file number bytes {job} e l =
     let ok : Valid job = exact-and-valid either either-known file bytes e .1 in
     ap (λ g. nameIn g number) e ∙ name-past (job .entries) number (omega (arith, ok .size))
 
--- "All else is accepted": input that a call does not turn down; 14 to 16 are answers to accepted input
-pub demand-1-else : {A : Type 0} (a : Answer A) → ((reason : Reason) (place : ℕ) → Refuses a reason place → ⊥) → accepted a ≡ true
-demand-1-else (refusal reason place) h = go (answers reason) refl
-  where
-    go : (t : Bool) → answers reason ≡ t → answers reason ≡ true
-    go true e = e
-    go false e = absurd (h reason place (refl, e))
-demand-1-else (value x) h = refl
+-- otherwise it gives the name of that article or step, empty where it has none, and always a part of the file's own bytes
+pub demand-1-name-result : (file : List ℕ) (number : ℕ) {job : Job (List ℕ)} {end : ℕ} → readJob either file ≡ got job end → nameOf file number ≡ getD (namesOf (job .entries)) number []
+demand-1-name-result file number e = ap (λ g. nameIn g number) e
 
-pub demand-1-only : {A : Type 0} (a : Answer A) → accepted a ≡ true → (reason : Reason) (place : ℕ) → Refuses a reason place → ⊥
-demand-1-only a t reason place w = tests-end a t .exactly reason place .0 w
+pub demand-1-name-part : (file : List ℕ) (number : ℕ) → (start len : ℕ) × (nameOf file number ≡ take len (drop start file))
+demand-1-name-part file number = let spot = spotIn (read spots either file) number in (spot .start, spot .len, name-at-spot file either number)
+
+-- "All else is accepted": exactly the input that a call does not turn down; 14 to 16 are answers to accepted input
+pub demand-1-partition-else : (file buffer : List ℕ) → Exactly (accepted (partitionOf file buffer .answer) ≡ true) ((number place : ℕ) → Wrong choices file (λ job. shortBuffer buffer (size job) ∷ []) number place → ⊥)
+demand-1-partition-else file buffer = accepted-exactly (partitionOf file buffer .answer) (demand-1-partition file buffer)
+
+pub demand-1-pass-else : (file groups : List ℕ) (live goal : ℕ)
+    → Exactly (accepted (said (passOf file groups live goal)) ≡ true) ((number place : ℕ) → Wrong choices file (λ job. shortBuffer groups (size job) ∷ falsePartition (networkOf job) groups ∷ absentArticle (size job) live ∷ wrongGoal (order job) goal ∷ []) number place → ⊥)
+demand-1-pass-else file groups live goal = accepted-exactly (said (passOf file groups live goal)) (demand-1-pass file groups live goal)
+
+pub demand-1-choose-else : (file groups goals : List ℕ) (floor : ℕ)
+    → Exactly (accepted (said (chooseOf file groups goals floor)) ≡ true) ((number place : ℕ) → Wrong choices file (λ job. shortBuffer groups (size job) ∷ falsePartition (networkOf job) groups ∷ wrongGoals (order job) goals ∷ []) number place → ⊥)
+demand-1-choose-else file groups goals floor = accepted-exactly (said (chooseOf file groups goals floor)) (demand-1-choose file groups goals floor)
+
+pub demand-1-fact-layer-else : (file buffer : List ℕ) (k : ℕ)
+    → Exactly (accepted (factLayerOf file k buffer .answer) ≡ true) ((number place : ℕ) → Wrong fittings file (λ job. absentLayer k 0 (horizon job) ∷ shortBuffer buffer 32 ∷ []) number place → ⊥)
+demand-1-fact-layer-else file buffer k = accepted-exactly (factLayerOf file k buffer .answer) (demand-1-fact-layer file buffer k)
+
+pub demand-1-round-layer-else : (file buffer : List ℕ) (k : ℕ)
+    → Exactly (accepted (roundLayerOf file k buffer .answer) ≡ true) ((number place : ℕ) → Wrong fittings file (λ job. absentLayer k 1 (horizon job) ∷ shortBuffer buffer 64 ∷ []) number place → ⊥)
+demand-1-round-layer-else file buffer k = accepted-exactly (roundLayerOf file k buffer .answer) (demand-1-round-layer file buffer k)
+
+pub demand-1-plan-else : (file buffer : List ℕ) → Exactly (accepted (said (planOf file buffer)) ≡ true) ((number place : ℕ) → Wrong fittings file (λ job. shortBuffer buffer (horizon job) ∷ []) number place → ⊥)
+demand-1-plan-else file buffer = accepted-exactly (said (planOf file buffer)) (demand-1-plan file buffer)
+
+pub demand-1-find-else : (file name : List ℕ) → Exactly (accepted (said (findOf file name)) ≡ true) ((number place : ℕ) → Wrong either file (λ job. []) number place → ⊥)
+demand-1-find-else file name = accepted-exactly (said (findOf file name)) (demand-1-find file name)
+
+pub demand-1-compare-else : (first second : List ℕ)
+    → Exactly (accepted (said (compareOf first second)) ≡ true) ((number place : ℕ) → Off choices first number place ⊎ ((job : Job (List ℕ)) × (end : ℕ) × (readJob choices first ≡ got job end) × Off choices second number place) → ⊥)
+demand-1-compare-else first second = accepted-exactly (said (compareOf first second)) (demand-1-compare first second)
 
 -- "every call ends with the result that is defined": finding and comparing; the other calls are those of demands 2 and 3
-pub demand-1-find-result : (file name : List ℕ) → accepted (findOf file name) ≡ true → (job : Job (List ℕ)) × (end : ℕ) × (readJob either file ≡ got job end) × (findOf file name ≡ findIn job name)
-demand-1-find-result file name t = let (job, end, e, i, s) = file-taken either file (λ job. findIn job name) t in (job, end, e, i)
+pub demand-1-find-result : (file name : List ℕ) → accepted (said (findOf file name)) ≡ true → (job : Job (List ℕ)) × (end : ℕ) × (readJob either file ≡ got job end) × (said (findOf file name) ≡ said (findIn job name))
+demand-1-find-result file name t = let (job, end, e, i, s) = file-taken either file (λ job. findIn job name) t in (job, end, e, ap said i)
 
-pub demand-1-compare-result : (first second : List ℕ) → accepted (compareOf first second) ≡ true
-    → (a b : Job (List ℕ)) × (m n : ℕ) × (readJob choices first ≡ got a m) × (readJob choices second ≡ got b n) × (compareOf first second ≡ value (alike a b))
+-- the lowest number with a name, and 16 exactly where there is none
+pub demand-1-find-lowest : (file name : List ℕ) {job : Job (List ℕ)} {end : ℕ} → readJob either file ≡ got job end → (i : ℕ) → Exactly (said (findOf file name) ≡ answered i) (Has job name i × ((j : ℕ) → j < i → Has job name j → ⊥))
+demand-1-find-lowest file name {job} e i =
+    let is : said (findOf file name) ≡ said (findIn job name) = ap (λ g. said (onJob g (λ job. findIn job name))) e in
+    let some = found-some (lowestNamed name (size job) (λ i. getD (namesOf (job .entries)) i [])) NameNotFound i in
+    exactly-then (λ r. some .0 (sym is ∙ r), λ s. is ∙ some .1 s) (lowest-exactly name job i)
+
+pub demand-1-alike : (a b : Job (List ℕ)) → Exactly (alike a b ≡ true) (Alike a b)
+demand-1-alike a b = alike-exactly a b
+
+pub demand-1-compare-result : (first second : List ℕ) → accepted (said (compareOf first second)) ≡ true
+    → (a b : Job (List ℕ)) × (m n : ℕ) × (readJob choices first ≡ got a m) × (readJob choices second ≡ got b n) × (said (compareOf first second) ≡ answered (alike a b))
 demand-1-compare-result first second t =
     let (a, m, e, i, s) = file-taken choices first (λ a. onJob (readJob choices second) (λ b. value (alike a b))) t in
     let (b, n, h, j, r) = file-taken choices second (λ b. value (alike a b)) s in
-    (a, b, m, n, e, h, i ∙ j)
+    (a, b, m, n, e, h, ap said (i ∙ j))
 
 -- ---- demand 2: on accepted input, each result is its definition on the job that the file states
 
@@ -160,9 +199,13 @@ demand-1-compare-result first second t =
 pub demand-2-reading : (takes : ℕ → Bool) → Known takes → (file : List ℕ) → Bytes file → {job : Job (List ℕ)} {end : ℕ} → readJob takes file ≡ got job end → (file ≡ write job) × Valid job
 demand-2-reading takes known file bytes e = exact-and-valid takes known file bytes e
 
+-- and the writing of every valid job is accepted and reads back as that job
+pub demand-2-read-back : (takes : ℕ → Bool) → Known takes → (job : Job (List ℕ)) → Valid job → takes (job .kind) ≡ true → readJob takes (write job) ≡ got job (length (write job))
+demand-2-read-back takes known job ok t = read-back takes known job ok t
+
 -- "partition", in front of the buffer, with the later bytes as they were; it is one
 pub demand-2-partition : (file buffer : List ℕ) → accepted (partitionOf file buffer .answer) ≡ true
-    → (job : Job (List ℕ)) × (end : ℕ) × (readJob choices file ≡ got job end) × (partitionOf file buffer .answer ≡ value tt) × (partitionOf file buffer .buffer ≡ groupsTo (networkOf job) (size job) ++ drop (size job) buffer) × Partition (networkOf job) (groupOf (networkOf job))
+    → (job : Job (List ℕ)) × (end : ℕ) × (readJob choices file ≡ got job end) × (partitionOf file buffer .answer ≡ answered tt) × (partitionOf file buffer .buffer ≡ groupsTo (networkOf job) (size job) ++ drop (size job) buffer) × Partition (networkOf job) (groupOf (networkOf job))
 demand-2-partition file buffer t =
     let a = onJob (readJob choices file) (λ job. partitionIn job buffer) in
     let (job, end, e, i, s) = file-taken choices file (λ job. partitionIn job buffer) (sym (left-taken (λ groups. groups) (λ groups. tt) buffer a) ∙ t) in
@@ -170,22 +213,22 @@ demand-2-partition file buffer t =
     (job, end, e, p, q, groups-right (networkOf job))
 
 -- "filter"
-pub demand-2-pass : (file groups : List ℕ) (live goal : ℕ) → accepted (passOf file groups live goal) ≡ true
-    → (job : Job (List ℕ)) × (end : ℕ) × (readJob choices file ≡ got job end) × (passOf file groups live goal ≡ value (pass (networkOf job) (λ u. getD groups u 0) live goal))
+pub demand-2-pass : (file groups : List ℕ) (live goal : ℕ) → accepted (said (passOf file groups live goal)) ≡ true
+    → (job : Job (List ℕ)) × (end : ℕ) × (readJob choices file ≡ got job end) × (said (passOf file groups live goal) ≡ answered (pass (networkOf job) (λ u. getD groups u 0) live goal))
 demand-2-pass file groups live goal t =
     let (job, end, e, i, s) = file-taken choices file (λ job. passIn job groups live goal) t in
-    (job, end, e, i ∙ both-pass (groups-checks (networkOf job) groups) (pass-checks (size job) (order job) live goal) _ s)
+    (job, end, e, ap said (i ∙ both-pass (groups-checks (networkOf job) groups) (pass-checks (size job) (order job) live goal) _ s))
 
 -- "smallest selection"
-pub demand-2-choose : (file groups goals : List ℕ) (floor : ℕ) → accepted (chooseOf file groups goals floor) ≡ true
-    → (job : Job (List ℕ)) × (end : ℕ) × (readJob choices file ≡ got job end) × (chooseOf file groups goals floor ≡ chosenOr (selection (networkOf job) (order job) floor) (setAside (networkOf job) (λ u. getD groups u 0) goals))
+pub demand-2-choose : (file groups goals : List ℕ) (floor : ℕ) → accepted (said (chooseOf file groups goals floor)) ≡ true
+    → (job : Job (List ℕ)) × (end : ℕ) × (readJob choices file ≡ got job end) × (said (chooseOf file groups goals floor) ≡ said (chosenOr (selection (networkOf job) (order job) floor) (setAside (networkOf job) (λ u. getD groups u 0) goals)))
 demand-2-choose file groups goals floor t =
     let (job, end, e, i, s) = file-taken choices file (λ job. chooseIn job groups goals floor) t in
-    (job, end, e, i ∙ choice-is groups goals floor job s)
+    (job, end, e, ap said (i ∙ choice-is groups goals floor job s))
 
 -- "planning-graph layers"
 pub demand-2-fact-layer : (file buffer : List ℕ) (k : ℕ) → accepted (factLayerOf file k buffer .answer) ≡ true
-    → (job : Job (List ℕ)) × (end : ℕ) × (readJob fittings file ≡ got job end) × (factLayerOf file k buffer .answer ≡ value (factLayer 32 (fittingOf job) k .members)) × (factLayerOf file k buffer .buffer ≡ factLayer 32 (fittingOf job) k .words ++ drop 32 buffer)
+    → (job : Job (List ℕ)) × (end : ℕ) × (readJob fittings file ≡ got job end) × (factLayerOf file k buffer .answer ≡ answered (factLayer 32 (fittingOf job) k .members)) × (factLayerOf file k buffer .buffer ≡ factLayer 32 (fittingOf job) k .words ++ drop 32 buffer)
 demand-2-fact-layer file buffer k t =
     let a = onJob (readJob fittings file) (λ job. factLayerIn job k buffer) in
     let (job, end, e, i, s) = file-taken fittings file (λ job. factLayerIn job k buffer) (sym (left-taken (λ layer. layer .words) (λ layer. layer .members) buffer a) ∙ t) in
@@ -193,7 +236,7 @@ demand-2-fact-layer file buffer k t =
     (job, end, e, p, q)
 
 pub demand-2-round-layer : (file buffer : List ℕ) (k : ℕ) → accepted (roundLayerOf file k buffer .answer) ≡ true
-    → (job : Job (List ℕ)) × (end : ℕ) × (readJob fittings file ≡ got job end) × (roundLayerOf file k buffer .answer ≡ value (roundLayer 32 (fittingOf job) k .members)) × (roundLayerOf file k buffer .buffer ≡ roundLayer 32 (fittingOf job) k .words ++ drop 64 buffer)
+    → (job : Job (List ℕ)) × (end : ℕ) × (readJob fittings file ≡ got job end) × (roundLayerOf file k buffer .answer ≡ answered (roundLayer 32 (fittingOf job) k .members)) × (roundLayerOf file k buffer .buffer ≡ roundLayer 32 (fittingOf job) k .words ++ drop 64 buffer)
 demand-2-round-layer file buffer k t =
     let a = onJob (readJob fittings file) (λ job. roundLayerIn job k buffer) in
     let (job, end, e, i, s) = file-taken fittings file (λ job. roundLayerIn job k buffer) (sym (left-taken (λ layer. layer .words) (λ layer. layer .members) buffer a) ∙ t) in
@@ -207,35 +250,35 @@ demand-2-one-writing takes takes′ known known′ f g bf bg p q = one-writing t
 -- ---- demand 3
 
 -- "Whatever choice file, partition, projection goals and floor the choice accepts": the clauses of `ChoiceKept`
-pub demand-3-choice : (file groups goals : List ℕ) (floor : ℕ) → accepted (chooseOf file groups goals floor) ≡ true
-    → (job : Job (List ℕ)) × (end : ℕ) × (readJob choices file ≡ got job end) × ChoiceKept job (λ u. getD groups u 0) goals floor (chooseOf file groups goals floor)
+pub demand-3-choice : (file groups goals : List ℕ) (floor : ℕ) → accepted (said (chooseOf file groups goals floor)) ≡ true
+    → (job : Job (List ℕ)) × (end : ℕ) × (readJob choices file ≡ got job end) × ChoiceKept job (λ u. getD groups u 0) goals floor (said (chooseOf file groups goals floor))
 demand-3-choice file groups goals floor t =
     let (job, end, e, i, s) = file-taken choices file (λ job. chooseIn job groups goals floor) t in
-    (job, end, e, subst (ChoiceKept job (λ u. getD groups u 0) goals floor) (sym i) (choice-kept groups goals floor job s))
+    (job, end, e, subst (λ a. ChoiceKept job (λ u. getD groups u 0) goals floor (said a)) (sym i) (choice-kept groups goals floor job s))
 
 -- "no selection" comes exactly when there is none
-pub demand-3-no-selection : (file groups goals : List ℕ) (floor : ℕ) → accepted (chooseOf file groups goals floor) ≡ true → {job : Job (List ℕ)} {end : ℕ} → readJob choices file ≡ got job end
-    → Exactly (chooseOf file groups goals floor ≡ refusal NoSelection 0) ((x : ℕ) → Selection (networkOf job) (order job) x → floor ≤ x → ⊥)
+pub demand-3-no-selection : (file groups goals : List ℕ) (floor : ℕ) → accepted (said (chooseOf file groups goals floor)) ≡ true → {job : Job (List ℕ)} {end : ℕ} → readJob choices file ≡ got job end
+    → Exactly (Says (said (chooseOf file groups goals floor)) 14) ((x : ℕ) → Selection (networkOf job) (order job) x → floor ≤ x → ⊥)
 demand-3-no-selection file groups goals floor t {job} e =
     let i : chooseOf file groups goals floor ≡ chooseIn job groups goals floor = ap (λ g. onJob g (λ job. chooseIn job groups goals floor)) e in
-    let is = i ∙ choice-is groups goals floor job (sym (ap accepted i) ∙ t) in
+    let is = i ∙ choice-is groups goals floor job (sym (ap (λ a. accepted (said a)) i) ∙ t) in
     let (to, back) = chosen-none (selection (networkOf job) (order job) floor) (setAside (networkOf job) (λ u. getD groups u 0) goals) in
-    (λ r. none-exactly (networkOf job) (order job) floor (to (sym is ∙ r)), λ h. is ∙ back (exactly-none (networkOf job) (order job) floor h))
+    (λ (place, r). none-exactly (networkOf job) (order job) floor (to (place, sym (ap said is) ∙ r)), λ h. let (place, r) = back (exactly-none (networkOf job) (order job) floor h) in (place, ap said is ∙ r))
 
 -- "Whatever fitting file and buffer the planner accepts": the clauses of `PlanKept`. `Buffer` is what the contract says of the words, old before the
--- call and new after it; no call changes how many there are
-pub demand-3-plan : (file old new : List ℕ) → length new ≡ length old → accepted (planOf file old) ≡ true → Buffer (readJob fittings file) old new (planOf file old)
-    → (job : Job (List ℕ)) × (end : ℕ) × (readJob fittings file ≡ got job end) × PlanKept job old new (planOf file old)
-demand-3-plan file old new same t b =
+-- call and new after it
+pub demand-3-plan : (file old new : List ℕ) → accepted (said (planOf file old)) ≡ true → Buffer (readJob fittings file) old new (planOf file old)
+    → (job : Job (List ℕ)) × (end : ℕ) × (readJob fittings file ≡ got job end) × PlanKept job old new (said (planOf file old))
+demand-3-plan file old new t b =
     let (job, end, e, i, s) = file-taken fittings file (λ job. planIn job old) t in
     let w : WordsIn (fittingOf job) old new (planIn job old) = subst (λ g. Buffer g old new (onJob g (λ job. planIn job old))) e b in
-    (job, end, e, subst (PlanKept job old new) (sym i) (plan-kept old new same job s w))
+    (job, end, e, subst (λ a. PlanKept job old new (said a)) (sym i) (plan-kept old new job s w))
 
 -- "no plan" comes exactly when there is none within the horizon
-pub demand-3-no-plan : (file buffer : List ℕ) → accepted (planOf file buffer) ≡ true → {job : Job (List ℕ)} {end : ℕ} → readJob fittings file ≡ got job end
-    → Exactly (planOf file buffer ≡ refusal NoPlan 0) ((rs : List ℕ) → Plan (fittingOf job) rs → length rs ≤ horizon job → ⊥)
+pub demand-3-no-plan : (file buffer : List ℕ) → accepted (said (planOf file buffer)) ≡ true → {job : Job (List ℕ)} {end : ℕ} → readJob fittings file ≡ got job end
+    → Exactly (Says (said (planOf file buffer)) 15) ((rs : List ℕ) → Plan (fittingOf job) rs → length rs ≤ horizon job → ⊥)
 demand-3-no-plan file buffer t {job} e =
     let i : planOf file buffer ≡ planIn job buffer = ap (λ g. onJob g (λ job. planIn job buffer)) e in
-    let is = i ∙ plan-is buffer job (sym (ap accepted i) ∙ t) in
+    let is = i ∙ plan-is buffer job (sym (ap (λ a. accepted (said a)) i) ∙ t) in
     let (to, back) = found-none (fewest (fittingOf job) (horizon job)) NoPlan in
-    (λ r. fewest-none (fittingOf job) (horizon job) (to (sym is ∙ r)), λ h. is ∙ back (none-fewest (fittingOf job) (horizon job) h))
+    (λ (place, r). fewest-none (fittingOf job) (horizon job) (to (place, sym (ap said is) ∙ r)), λ h. let (place, r) = back (none-fewest (fittingOf job) (horizon job) h) in (place, ap said is ∙ r))

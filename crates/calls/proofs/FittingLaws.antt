@@ -32,7 +32,7 @@ use Rattle.layering.proofs.LayerCode.{facts-length, rounds-length}
 use Rattle.planner.specs.declared.Planned.{Planned}
 use Rattle.planner.specs.declared.Planned.the-variants as Planned
 use Rattle.planner.specs.Planner.{plannedBy, Words}
-use Rattle.lending.specs.Answers.{Answer, refusal, value, onJob, behind, found, Left, leaving}
+use Rattle.lending.specs.Answers.{Answer, refusal, value, onJob, behind, found, Said, answered, said, refusalSaid, Left, leaving}
 use Rattle.lending.specs.Tests.{roomTest, layerTest, verdictOf}
 use Rattle.lending.proofs.TestLaws.{stopped, through}
 use Rattle.calls.specs.Layers.{factLayerIn, factLayerOf, roundLayerIn, roundLayerOf}
@@ -74,10 +74,10 @@ abbrev left : List ℕ → Answer Layer → Left ℕ
 left old a = leaving (λ layer. layer .words) (λ layer. layer .members) old a
 
 module _ (f old : List ℕ) (k : ℕ) where
-  pub facts-down : {v : Verdict} {x : Refusal} → v ≡ Answers.fittingOf (read spots fittings f) .verdict → v ≡ Verdict.Refused x → record { answer = refusal (x .reason) (x .place); buffer = old } ≡ factLayerOf f k old
+  pub facts-down : {v : Verdict} {x : Refusal} → v ≡ Answers.fittingOf (read spots fittings f) .verdict → v ≡ Verdict.Refused x → record { answer = refusalSaid x; buffer = old } ≡ factLayerOf f k old
   facts-down p q = ap (left old) (job-down (λ job. factLayerIn job k old) (fitting-down f p q))
 
-  pub vertices-down : {v : Verdict} {x : Refusal} → v ≡ Answers.fittingOf (read spots fittings f) .verdict → v ≡ Verdict.Refused x → record { answer = refusal (x .reason) (x .place); buffer = old } ≡ roundLayerOf f k old
+  pub vertices-down : {v : Verdict} {x : Refusal} → v ≡ Answers.fittingOf (read spots fittings f) .verdict → v ≡ Verdict.Refused x → record { answer = refusalSaid x; buffer = old } ≡ roundLayerOf f k old
   vertices-down p q = ap (left old) (job-down (λ job. roundLayerIn job k old) (fitting-down f p q))
 
   module _ (r : ReadFitting) (R : FittingRead f r) where
@@ -87,16 +87,16 @@ module _ (f old : List ℕ) (k : ℕ) where
     facts-on : factsIn (fittingIn r) ≡ onJob (readJob fittings f) (λ job. factLayerIn job k old)
     facts-on = ap factsIn (R .fitting) ∙ on-job (λ job. factLayerIn job k old) (R .is)
 
-    pub facts-stopped : {v : Verdict} {x : Refusal} → v ≡ verdictOf (layerTest k 0 (r .horizon) (length old) 32) → v ≡ Verdict.Refused x → record { answer = refusal (x .reason) (x .place); buffer = old } ≡ factLayerOf f k old
+    pub facts-stopped : {v : Verdict} {x : Refusal} → v ≡ verdictOf (layerTest k 0 (r .horizon) (length old) 32) → v ≡ Verdict.Refused x → record { answer = refusalSaid x; buffer = old } ≡ factLayerOf f k old
     facts-stopped e q = ap (left old) (stopped (layerTest k 0 (r .horizon) (length old) 32) (value (factLayer 32 (fittingIn r) k)) e q ∙ facts-on)
 
     pub facts-made : {v : Verdict} {m : ℕ} {ws new : List ℕ} → v ≡ verdictOf (layerTest k 0 (r .horizon) (length old) 32) → v ≡ Verdict.Accepted
-        → layer m ws ≡ roomy 64 (factLayer 32 (fittingIn r) k) → new ≡ take 32 ws ++ drop 32 old → record { answer = value m; buffer = new } ≡ factLayerOf f k old
+        → layer m ws ≡ roomy 64 (factLayer 32 (fittingIn r) k) → new ≡ take 32 ws ++ drop 32 old → record { answer = answered m; buffer = new } ≡ factLayerOf f k old
     facts-made {m = m} {ws = ws} {new = new} e q made wrote =
         let L = factLayer 32 (fittingIn r) k in
         let words : take 32 ws ≡ L .words = ap (λ M. take 32 (M .words)) made ∙ padded-front 32 64 (L .words) (facts-length 32 (fittingIn r) k) (omega arith) in
         let same : new ≡ L .words ++ drop (length (L .words)) old = wrote ∙ ap₂ (λ (x : List ℕ) (n : ℕ). x ++ drop n old) words (sym (facts-length 32 (fittingIn r) k)) in
-        ap₂ (λ (x : ℕ) (b : List ℕ). record { answer = value x; buffer = b }) (ap (λ M. M .members) made) same
+        ap₂ (λ (x : ℕ) (b : List ℕ). record { answer = answered x; buffer = b }) (ap (λ M. M .members) made) same
         ∙ ap (left old) (through (layerTest k 0 (r .horizon) (length old) 32) (value L) e q ∙ facts-on)
 
     abbrev roundsIn : Fitting → Answer Layer
@@ -105,30 +105,30 @@ module _ (f old : List ℕ) (k : ℕ) where
     rounds-on : roundsIn (fittingIn r) ≡ onJob (readJob fittings f) (λ job. roundLayerIn job k old)
     rounds-on = ap roundsIn (R .fitting) ∙ on-job (λ job. roundLayerIn job k old) (R .is)
 
-    pub vertices-stopped : {v : Verdict} {x : Refusal} → v ≡ verdictOf (layerTest k 1 (r .horizon) (length old) 64) → v ≡ Verdict.Refused x → record { answer = refusal (x .reason) (x .place); buffer = old } ≡ roundLayerOf f k old
+    pub vertices-stopped : {v : Verdict} {x : Refusal} → v ≡ verdictOf (layerTest k 1 (r .horizon) (length old) 64) → v ≡ Verdict.Refused x → record { answer = refusalSaid x; buffer = old } ≡ roundLayerOf f k old
     vertices-stopped e q = ap (left old) (stopped (layerTest k 1 (r .horizon) (length old) 64) (value (roundLayer 32 (fittingIn r) k)) e q ∙ rounds-on)
 
     pub vertices-made : {v : Verdict} {m : ℕ} {ws new : List ℕ} → v ≡ verdictOf (layerTest k 1 (r .horizon) (length old) 64) → v ≡ Verdict.Accepted
-        → layer m ws ≡ roundLayer 32 (fittingIn r) k → new ≡ ws ++ drop 64 old → record { answer = value m; buffer = new } ≡ roundLayerOf f k old
+        → layer m ws ≡ roundLayer 32 (fittingIn r) k → new ≡ ws ++ drop 64 old → record { answer = answered m; buffer = new } ≡ roundLayerOf f k old
     vertices-made {m = m} {ws = ws} {new = new} e q made wrote =
         let L = roundLayer 32 (fittingIn r) k in
         let same : new ≡ L .words ++ drop (length (L .words)) old =
         wrote ∙ ap₂ (λ (x : List ℕ) (n : ℕ). x ++ drop n old) (ap (λ M. M .words) made) (sym (rounds-length 32 (fittingIn r) k)) in
-        ap₂ (λ (x : ℕ) (b : List ℕ). record { answer = value x; buffer = b }) (ap (λ M. M .members) made) same
+        ap₂ (λ (x : ℕ) (b : List ℕ). record { answer = answered x; buffer = b }) (ap (λ M. M .members) made) same
         ∙ ap (left old) (through (layerTest k 1 (r .horizon) (length old) 64) (value L) e q ∙ rounds-on)
 
 -- ---- the plan
 
 module _ (f old new : List ℕ) where
   -- what the call promises of an answer, and the same by what the file was read as
-  abbrev pub Promised : Answer ℕ → Type 0
-  Promised a = (a ≡ planOf f old) × Buffer (readJob fittings f) old new (planOf f old)
+  abbrev pub Promised : Said ℕ → Type 0
+  Promised s = (s ≡ said (planOf f old)) × Buffer (readJob fittings f) old new (planOf f old)
 
-  abbrev by : Answer ℕ → Got (Job (List ℕ)) → Type 0
-  by a g = (a ≡ onJob g (λ job. planIn job old)) × Buffer g old new (onJob g (λ job. planIn job old))
+  abbrev by : Said ℕ → Got (Job (List ℕ)) → Type 0
+  by s g = (s ≡ said (onJob g (λ job. planIn job old))) × Buffer g old new (onJob g (λ job. planIn job old))
 
-  pub plan-down : {v : Verdict} {x : Refusal} → v ≡ Answers.fittingOf (read spots fittings f) .verdict → v ≡ Verdict.Refused x → new ≡ old → Promised (refusal (x .reason) (x .place))
-  plan-down {x = x} p q same = subst (by (refusal (x .reason) (x .place))) (sym (fitting-down f p q)) (refl, same)
+  pub plan-down : {v : Verdict} {x : Refusal} → v ≡ Answers.fittingOf (read spots fittings f) .verdict → v ≡ Verdict.Refused x → new ≡ old → Promised (refusalSaid x)
+  plan-down {x = x} p q same = subst (by (refusalSaid x)) (sym (fitting-down f p q)) (refl, same)
 
   module _ (r : ReadFitting) (R : FittingRead f r) {v : Verdict} (e : v ≡ verdictOf (roomTest (length old) (r .horizon))) where
     -- over a fitting
@@ -138,28 +138,28 @@ module _ (f old new : List ℕ) where
     abbrev Over : Answer ℕ → Fitting → Type 0
     Over a F = (a ≡ planOver F) × WordsIn F old new (planOver F)
 
-    on-file : {a : Answer ℕ} → Over a (fittingIn r) → Promised a
-    on-file {a} h = subst (by a) (sym (R .is)) (subst (Over a) (R .fitting) h)
+    on-file : {a : Answer ℕ} → Over a (fittingIn r) → Promised (said a)
+    on-file {a} h = let (k, w) = subst (Over a) (R .fitting) h in subst (by (said a)) (sym (R .is)) (ap said k, w)
 
     -- an answer that the words go with
     with-words : {a : Answer ℕ} → a ≡ planOver (fittingIn r) → WordsIn (fittingIn r) old new a → Over a (fittingIn r)
     with-words k w = (k, subst (WordsIn (fittingIn r) old new) k w)
 
-    pub plan-short : {x : Refusal} → v ≡ Verdict.Refused x → new ≡ old → Promised (refusal (x .reason) (x .place))
+    pub plan-short : {x : Refusal} → v ≡ Verdict.Refused x → new ≡ old → Promised (refusalSaid x)
     plan-short q same = on-file (with-words (stopped (roomTest (length old) (r .horizon)) (found (fewest (fittingIn r) (r .horizon)) NoPlan) e q) same)
 
     module _ (ok : v ≡ Verdict.Accepted) {m : Planned} (p : m ≡ plannedBy (fewest (fittingIn r) (r .horizon))) (words : Words (fittingIn r) old new m) where
-      tested : {a : Answer ℕ} → a ≡ found (fewest (fittingIn r) (r .horizon)) NoPlan → WordsIn (fittingIn r) old new a → Promised a
+      tested : {a : Answer ℕ} → a ≡ found (fewest (fittingIn r) (r .horizon)) NoPlan → WordsIn (fittingIn r) old new a → Promised (said a)
       tested k w = on-file (with-words (k ∙ through (roomTest (length old) (r .horizon)) (found (fewest (fittingIn r) (r .horizon)) NoPlan) e ok) w)
 
-      pub plan-made : {k : ℕ} → m ≡ Planned.Rounds k → Promised (value k)
+      pub plan-made : {k : ℕ} → m ≡ Planned.Rounds k → Promised (answered k)
       plan-made {k} q = tested (go (fewest (fittingIn r) (r .horizon)) (sym p ∙ q)) (subst (Words (fittingIn r) old new) q words)
         where
           go : (o : Option ℕ) → plannedBy o ≡ Planned.Rounds k → value k ≡ found o NoPlan
           go (some j) h = let s : j ≡ k = cc in sym (ap (λ (i : ℕ). value i) s)
           go none h = let z : _≡_ {A = ℕ} 0 1 = cc in absurd (omega arith)
 
-      pub plan-none : m ≡ Planned.Nothing → Promised (refusal NoPlan 0)
+      pub plan-none : m ≡ Planned.Nothing → Promised (said (refusal NoPlan 0))
       plan-none q = tested (go (fewest (fittingIn r) (r .horizon)) (sym p ∙ q)) (subst (Words (fittingIn r) old new) q words)
         where
           go : (o : Option ℕ) → plannedBy o ≡ Planned.Nothing → refusal NoPlan 0 ≡ found o NoPlan

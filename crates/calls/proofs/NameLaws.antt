@@ -26,7 +26,7 @@ use Rattle.expansion.proofs.ReadLaws.{column-by, column-length}
 use Rattle.matching.specs.Same.{sameList, alike}
 use Rattle.matching.specs.Names.{lowestNamed}
 use Rattle.matching.proofs.SameLaws.{padded-same, search-cong}
-use Rattle.lending.specs.Answers.{Answer, refusal, value, onJob, found}
+use Rattle.lending.specs.Answers.{Answer, value, onJob, found, Said, answered, said, refusalSaid}
 use Rattle.calls.specs.Find.{findIn, findOf}
 use Rattle.calls.specs.Compare.{compareOf}
 use Rattle.calls.proofs.CallLaws.{Taken, choice-taken, fitting-taken, choice-down, fitting-down, job-down}
@@ -40,11 +40,11 @@ of-choice : (f name : List ℕ) → eqb (getD f 0 0) 70 ≡ false → onJob (rea
 of-choice f name e = sym (ap (λ g. onJob g (λ job. findIn job name)) (read-same f either ∙ ap (mapGot (jobBy f)) (either-choice spots f e) ∙ sym (read-same f choices)))
 
 module _ (f name : List ℕ) {b : Bool} (kind : b ≡ eqb (getD f 0 0) 70) where
-  pub find-down-fitting : {v : Verdict} {x : Refusal} → b ≡ true → v ≡ fittingOf (read spots fittings f) .verdict → v ≡ Verdict.Refused x → refusal (x .reason) (x .place) ≡ findOf f name
-  find-down-fitting t p q = job-down (λ job. findIn job name) (fitting-down f p q) ∙ of-fitting f name (sym kind ∙ t)
+  pub find-down-fitting : {v : Verdict} {x : Refusal} → b ≡ true → v ≡ fittingOf (read spots fittings f) .verdict → v ≡ Verdict.Refused x → refusalSaid x ≡ said (findOf f name)
+  find-down-fitting t p q = ap said (job-down (λ job. findIn job name) (fitting-down f p q) ∙ of-fitting f name (sym kind ∙ t))
 
-  pub find-down-choice : {v : Verdict} {x : Refusal} → b ≡ false → v ≡ choiceOf (read spots choices f) .verdict → v ≡ Verdict.Refused x → refusal (x .reason) (x .place) ≡ findOf f name
-  find-down-choice t p q = job-down (λ job. findIn job name) (choice-down f p q) ∙ of-choice f name (sym kind ∙ t)
+  pub find-down-choice : {v : Verdict} {x : Refusal} → b ≡ false → v ≡ choiceOf (read spots choices f) .verdict → v ≡ Verdict.Refused x → refusalSaid x ≡ said (findOf f name)
+  find-down-choice t p q = ap said (job-down (λ job. findIn job name) (choice-down f p q) ∙ of-choice f name (sym kind ∙ t))
 
 -- names by their spots in the file are those of the job
 search-is : (f name : List ℕ) (takes : ℕ → Bool) (t : Taken (read spots takes f)) (n : ℕ) (starts lens : List ℕ) → n ≡ size (t .job) → ((i : ℕ) → spotOf starts lens i ≡ spotIn (read spots takes f) i)
@@ -57,24 +57,26 @@ search-is f name takes t n starts lens en h =
     )
     ∙ sym (ap (λ g. onJob g (λ job. findIn job name)) (read-same f takes ∙ ap (mapGot (jobBy f)) (t .is)))
 
-module _ (f name : List ℕ) {b : Bool} (kind : b ≡ eqb (getD f 0 0) 70) {a : Answer ℕ} {o : Option ℕ} (told : a ≡ found o NameNotFound) where
+module _ (f name : List ℕ) {b : Bool} (kind : b ≡ eqb (getD f 0 0) 70) {s : Said ℕ} {o : Option ℕ} (told : s ≡ said (found o NameNotFound)) where
   pub find-fitting : (r : ReadFitting) → b ≡ true → r ≡ fittingOf (read spots fittings f) → FittingBounds f r → r .verdict ≡ Verdict.Accepted
-      → o ≡ lowestNamed name (r .steps) (λ i. take (getD (r .lens) i 0) (drop (getD (r .starts) i 0) f)) → a ≡ findOf f name
+      → o ≡ lowestNamed name (r .steps) (λ i. take (getD (r .lens) i 0) (drop (getD (r .starts) i 0) f)) → s ≡ said (findOf f name)
   find-fitting r c e bounds accepted p =
       let g = read spots fittings f in
       let t = fitting-taken g (ap (λ x. x .verdict) e) accepted in
-      told ∙ ap (λ (o : Option ℕ). found o NameNotFound) p
+      told
+      ∙ ap said (ap (λ (o : Option ℕ). found o NameNotFound) p
       ∙ search-is f name fittings t (r .steps) (r .starts) (r .lens) (ap (λ x. x .steps) e ∙ ap (λ x. fittingOf x .steps) (t .is)) (λ i. ap (λ x. spotOf (x .starts) (x .lens) i) e ∙ fitting-spot g (bounds .4) i)
-      ∙ of-fitting f name (sym kind ∙ c)
+      ∙ of-fitting f name (sym kind ∙ c))
 
   pub find-choice : (r : ReadChoice) → b ≡ false → r ≡ choiceOf (read spots choices f) → ChoiceBounds f r → r .verdict ≡ Verdict.Accepted
-      → o ≡ lowestNamed name (r .articles) (λ i. take (getD (r .lens) i 0) (drop (getD (r .starts) i 0) f)) → a ≡ findOf f name
+      → o ≡ lowestNamed name (r .articles) (λ i. take (getD (r .lens) i 0) (drop (getD (r .starts) i 0) f)) → s ≡ said (findOf f name)
   find-choice r c e bounds accepted p =
       let g = read spots choices f in
       let t = choice-taken g (ap (λ x. x .verdict) e) accepted in
-      told ∙ ap (λ (o : Option ℕ). found o NameNotFound) p
+      told
+      ∙ ap said (ap (λ (o : Option ℕ). found o NameNotFound) p
       ∙ search-is f name choices t (r .articles) (r .starts) (r .lens) (ap (λ x. x .articles) e ∙ ap (λ x. choiceOf x .articles) (t .is)) (λ i. ap (λ x. spotOf (x .starts) (x .lens) i) e ∙ choice-spot g (bounds .3) i)
-      ∙ of-choice f name (sym kind ∙ c)
+      ∙ of-choice f name (sym kind ∙ c))
 
 -- ---- comparing
 
@@ -100,8 +102,8 @@ module _ (f s : List ℕ) where
   abbrev compared : Got (Job (List ℕ)) → Got (Job (List ℕ)) → Answer Bool
   compared g h = onJob g (λ a. onJob h (λ b. value (alike a b)))
 
-  pub compare-first : {v : Verdict} {x : Refusal} → v ≡ choiceOf (read spots choices f) .verdict → v ≡ Verdict.Refused x → refusal (x .reason) (x .place) ≡ compareOf f s
-  compare-first p q = job-down (λ a. onJob (readJob choices s) (λ b. value (alike a b))) (choice-down f p q)
+  pub compare-first : {v : Verdict} {x : Refusal} → v ≡ choiceOf (read spots choices f) .verdict → v ≡ Verdict.Refused x → refusalSaid x ≡ said (compareOf f s)
+  compare-first p q = ap said (job-down (λ a. onJob (readJob choices s) (λ b. value (alike a b))) (choice-down f p q))
 
   module _ (a : ReadChoice) (ea : a ≡ choiceOf (read spots choices f)) (ba : ChoiceBounds f a) (va : a .verdict ≡ Verdict.Accepted) where
     first : Taken (read spots choices f)
@@ -110,14 +112,14 @@ module _ (f s : List ℕ) where
     is-first : readJob choices f ≡ got (jobBy f (first .job)) (first .end)
     is-first = read-same f choices ∙ ap (mapGot (jobBy f)) (first .is)
 
-    pub compare-second : {v : Verdict} {x : Refusal} → v ≡ choiceOf (read spots choices s) .verdict → v ≡ Verdict.Refused x → refusal (x .reason) (x .place) ≡ compareOf f s
-    compare-second p q = sym (ap₂ compared is-first (choice-down s p q))
+    pub compare-second : {v : Verdict} {x : Refusal} → v ≡ choiceOf (read spots choices s) .verdict → v ≡ Verdict.Refused x → refusalSaid x ≡ said (compareOf f s)
+    compare-second p q = ap said (sym (ap₂ compared is-first (choice-down s p q)))
 
-    pub compare-both : (b : ReadChoice) {r t : Bool} → b ≡ choiceOf (read spots choices s) → ChoiceBounds s b → b .verdict ≡ Verdict.Accepted → r ≡ byArrays a b → r ≡ t → value t ≡ compareOf f s
+    pub compare-both : (b : ReadChoice) {r t : Bool} → b ≡ choiceOf (read spots choices s) → ChoiceBounds s b → b .verdict ≡ Verdict.Accepted → r ≡ byArrays a b → r ≡ t → answered t ≡ said (compareOf f s)
     compare-both b eb bb vb e k =
         let second = choice-taken (read spots choices s) (ap (λ x. x .verdict) eb) vb in
-        ap (λ (x : Bool). value x) (
+        ap (λ (x : Bool). answered x) (
         sym k ∙ e ∙ ap₂ byArrays (ea ∙ ap choiceOf (first .is)) (eb ∙ ap choiceOf (second .is))
         ∙ alike-is (first .job) (second .job) (first .end) (second .end) (subst (Few 64) (first .is) (ba .3)) (subst (Few 64) (second .is) (bb .3)) ∙ sym (alike-by f s (first .job) (second .job))
         )
-        ∙ sym (ap₂ compared is-first (read-same s choices ∙ ap (mapGot (jobBy s)) (second .is)))
+        ∙ ap said (sym (ap₂ compared is-first (read-same s choices ∙ ap (mapGot (jobBy s)) (second .is))))

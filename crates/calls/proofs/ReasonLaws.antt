@@ -1,6 +1,6 @@
 -- A file is refused for reasons 1 to 8 and no other: every item of a file and every way to join readers keeps to them. Assumes nothing.
-use mathlib.Core.Path.{_≡_, subst}
-use mathlib.Core.Bool.{Bool, true, false, not}
+use mathlib.Core.Path.{_≡_, ap, subst}
+use mathlib.Core.Bool.{Bool, true, false, not, _&&_}
 use mathlib.Core.List.{List, [], _∷_}
 use Prim.Native.Nat.{ℕ, suc, _+_, _^_, _≤_}
 use native.Mathlib.Omega.{arith}
@@ -114,5 +114,5 @@ pub file-reason : (takes : ℕ → Bool) (f : List ℕ) {reason : Reason} {place
 file-reason takes f e = subst (λ (g : Got (Job (List ℕ))). Tells g) e (job-tells f takes)
 
 -- so a refused file is not one of the answers to accepted input
-pub file-no-answer : (takes : ℕ → Bool) (f : List ℕ) {reason : Reason} {place : ℕ} → readJob takes f ≡ refused reason place → answers reason ≡ false
-file-no-answer takes f {reason} e = let l : numberOf reason ≤ 8 = file-reason takes f e in lt-leb 14 (numberOf reason) (omega arith)
+pub file-no-answer : (takes : ℕ → Bool) (f : List ℕ) {reason : Reason} {place : ℕ} → readJob takes f ≡ refused reason place → answers (numberOf reason) ≡ false
+file-no-answer takes f {reason} e = let l : numberOf reason ≤ 8 = file-reason takes f e in ap (λ b. b && leb (numberOf reason) 16) (lt-leb 14 (numberOf reason) (omega arith))

@@ -9,7 +9,7 @@ use Rattle.jobfile.specs.Read.{readJob, choices}
 use Rattle.network.specs.Network.{networkOf}
 use Rattle.network.specs.Filter.{setAside}
 use Rattle.choice.specs.Choice.{selection}
-use Rattle.lending.specs.Answers.{Answer, refusal, value, onJob, behind}
+use Rattle.lending.specs.Answers.{Answer, refusal, value, onJob, behind, Said, answered, refusalSaid}
 use Rattle.lending.specs.Tests.{groupsTest, goalsTest}
 use Rattle.calls.specs.declared.ChoiceAnswer.{ChoiceAnswer}
 use Rattle.calls.specs.declared.ChoiceAnswer.the-variants as ChoiceAnswer
@@ -36,6 +36,6 @@ abbrev pub chooseOf : List ℕ → List ℕ → List ℕ → ℕ → Answer Chos
 chooseOf file groups goals floor = onJob (readJob choices file) (λ job. chooseIn job groups goals floor)
 
 -- what the code's answer says
-abbrev pub choiceTold : ChoiceAnswer → Answer Chosen
-choiceTold (ChoiceAnswer.Refused x) = refusal (x .reason) (x .place)
-choiceTold (ChoiceAnswer.Chosen s aside) = value (record { selection = s .bits; aside = aside .bits })
+abbrev pub choiceTold : ChoiceAnswer → Said Chosen
+choiceTold (ChoiceAnswer.Refused x) = refusalSaid x
+choiceTold (ChoiceAnswer.Chosen s aside) = answered (record { selection = s .bits; aside = aside .bits })

@@ -4,7 +4,7 @@ use mathlib.Core.List.{List}
 use Prim.Native.Nat.{ℕ}
 use Rattle.jobfile.specs.Read.{readJob, choices}
 use Rattle.matching.specs.Same.{alike}
-use Rattle.lending.specs.Answers.{Answer, refusal, value, onJob}
+use Rattle.lending.specs.Answers.{Answer, value, onJob, Said, answered, refusalSaid}
 use Rattle.calls.specs.declared.CompareAnswer.{CompareAnswer}
 use Rattle.calls.specs.declared.CompareAnswer.the-variants as CompareAnswer
 
@@ -13,7 +13,7 @@ abbrev pub compareOf : List ℕ → List ℕ → Answer Bool
 compareOf first second = onJob (readJob choices first) (λ a. onJob (readJob choices second) (λ b. value (alike a b)))
 
 -- what the code's answer says
-abbrev pub compareTold : CompareAnswer → Answer Bool
-compareTold (CompareAnswer.Refused x) = refusal (x .reason) (x .place)
-compareTold CompareAnswer.Alike = value true
-compareTold CompareAnswer.Unlike = value false
+abbrev pub compareTold : CompareAnswer → Said Bool
+compareTold (CompareAnswer.Refused x) = refusalSaid x
+compareTold CompareAnswer.Alike = answered true
+compareTold CompareAnswer.Unlike = answered false

@@ -8,15 +8,14 @@ use lib.ListN.{length, getD, take, drop}
 use Rattle.sets.specs.Sets.{_∈_}
 use Rattle.sets.specs.First.{LeastFrom}
 use Rattle.reading.specs.declared.Reason.{Reason}
-use Rattle.reading.specs.declared.Reason.the-variants.{LayerOutOfRange, ShortBuffer, FalsePartition, LiveOutsideFile, BadGoal, NoSelection, NoPlan}
-use Rattle.reading.specs.Reasons.{answers}
+use Rattle.reading.specs.Reasons.{numberOf, answers}
 use Rattle.reading.specs.Got.{got, refused}
-use Rattle.jobfile.specs.Job.{Job, size, order, horizon}
+use Rattle.jobfile.specs.Job.{Job, namesOf, size, wishCount, order, wishes, clashes, horizon}
 use Rattle.jobfile.specs.Read.{readJob}
 use Rattle.network.specs.Network.{Network, Selection, networkOf, clash}
 use Rattle.network.specs.Filter.{setAside}
 use Rattle.graph.specs.Rounds.{fittingOf, Plan}
-use Rattle.lending.specs.Answers.{Answer, refusal, value}
+use Rattle.lending.specs.Answers.{Said, refusedBy, answered}
 use Rattle.calls.specs.Choose.{Chosen}
 
 -- the one exactly when the other
@@ -25,32 +24,39 @@ Exactly A B = (A → B) × (B → A)
 
 -- ---- demand 1: what is refused
 
--- a call turns its input down with this reason and place: 14 to 16 are answers to input that is accepted
-abbrev pub Refuses : {A : Type 0} → Answer A → Reason → ℕ → Type 0
-Refuses answer reason place = (answer ≡ refusal reason place) × (answers reason ≡ false)
+-- a call turns its input down by this number, at this place: 14 to 16 are answers to input that is accepted
+abbrev pub Refuses : {A : Type 0} → Said A → ℕ → ℕ → Type 0
+Refuses s number place = (s ≡ refusedBy number place) × (answers number ≡ false)
 
--- one way in which an argument can be wrong: at which place, and the reason
+-- a call answers in the form of a refusal by this number, at some place
+abbrev pub Says : {A : Type 0} → Said A → ℕ → Type 0
+Says s number = (place : ℕ) × (s ≡ refusedBy number place)
+
+-- one way in which an argument can be wrong: at which place, and the number of the reason
 pub record Fault : Type 1 where
   pub At : ℕ → Type 0
-  pub reason : Reason
+  pub number : ℕ
 
--- the first fault of a list that there is has this reason, at this place
-abbrev pub FirstOf : List Fault → Reason → ℕ → Type 0
-FirstOf [] reason place = ⊥
-FirstOf (fault ∷ faults) reason place = ((reason ≡ fault .reason) × fault .At place) ⊎ (((p : ℕ) → fault .At p → ⊥) × FirstOf faults reason place)
+-- the first fault of a list that there is has this number, at this place
+abbrev pub FirstOf : List Fault → ℕ → ℕ → Type 0
+FirstOf [] number place = ⊥
+FirstOf (fault ∷ faults) number place = ((number ≡ fault .number) × fault .At place) ⊎ (((p : ℕ) → fault .At p → ⊥) × FirstOf faults number place)
 
--- a file of a kind that the call takes is off the layout, with this reason and place; or it states a job, and the first fault of the other
--- arguments has them
-abbrev pub Wrong : (ℕ → Bool) → List ℕ → (Job (List ℕ) → List Fault) → Reason → ℕ → Type 0
-Wrong takes file faults reason place = (readJob takes file ≡ refused reason place) ⊎ ((job : Job (List ℕ)) × (end : ℕ) × (readJob takes file ≡ got job end) × FirstOf (faults job) reason place)
+-- a file is off the layout of the kinds that the call takes, by this number and at this place
+abbrev pub Off : (ℕ → Bool) → List ℕ → ℕ → ℕ → Type 0
+Off takes file number place = (reason : Reason) × (readJob takes file ≡ refused reason place) × (numberOf reason ≡ number)
+
+-- a file is off the layout; or it states a job, and the first fault of the other arguments has this number and place
+abbrev pub Wrong : (ℕ → Bool) → List ℕ → (Job (List ℕ) → List Fault) → ℕ → ℕ → Type 0
+Wrong takes file faults number place = Off takes file number place ⊎ ((job : Job (List ℕ)) × (end : ℕ) × (readJob takes file ≡ got job end) × FirstOf (faults job) number place)
 
 -- 9: a layer that the file lacks
 abbrev pub absentLayer : ℕ → ℕ → ℕ → Fault
-absentLayer k lowest highest = record { At = λ p. (p ≡ 0) × ((k < lowest) ⊎ (highest < k)); reason = LayerOutOfRange }
+absentLayer k lowest highest = record { At = λ p. (p ≡ 0) × ((k < lowest) ⊎ (highest < k)); number = 9 }
 
 -- 10: a short buffer
 abbrev pub shortBuffer : List ℕ → ℕ → Fault
-shortBuffer buffer size = record { At = λ p. (p ≡ 0) × (length buffer < size); reason = ShortBuffer }
+shortBuffer buffer size = record { At = λ p. (p ≡ 0) × (length buffer < size); number = 10 }
 
 -- 11: a false partition; the place is the lowest article whose group is n or more, or that shares a group with a lower article with which it does
 -- not clash
@@ -60,39 +66,49 @@ Misplaced N group u = (N .articles ≤ group u) ⊎ ((v : ℕ) × (v < u) × (gr
 abbrev pub falsePartition : Network → List ℕ → Fault
 falsePartition N groups = record {
   At = λ u. (u < N .articles) × Misplaced N (λ v. getD groups v 0) u × ((v : ℕ) → v < u → Misplaced N (λ v. getD groups v 0) v → ⊥);
-  reason = FalsePartition;
+  number = 11;
 }
 
 -- 12: an article that the file lacks is live
 abbrev pub absentArticle : ℕ → ℕ → Fault
-absentArticle articles live = record { At = λ p. (p ≡ 0) × ((u : ℕ) × (articles ≤ u) × (u ∈ live)); reason = LiveOutsideFile }
+absentArticle articles live = record { At = λ p. (p ≡ 0) × ((u : ℕ) × (articles ≤ u) × (u ∈ live)); number = 12 }
 
 -- 13: a projection goal that is empty or outside the order; of a list, the first
 abbrev pub Bad : ℕ → ℕ → Type 0
 Bad order goal = (goal ≡ 0) ⊎ ((i : ℕ) × (i ∈ goal) × (i ∈ order → ⊥))
 
 abbrev pub wrongGoal : ℕ → ℕ → Fault
-wrongGoal order goal = record { At = λ p. (p ≡ 0) × Bad order goal; reason = BadGoal }
+wrongGoal order goal = record { At = λ p. (p ≡ 0) × Bad order goal; number = 13 }
 
 abbrev pub wrongGoals : ℕ → List ℕ → Fault
 wrongGoals order goals = record {
   At = λ i. (i < length goals) × Bad order (getD goals i 0) × ((j : ℕ) → j < i → Bad order (getD goals j 0) → ⊥);
-  reason = BadGoal;
+  number = 13;
 }
+
+-- ---- demand 1: what finding and comparing give
+
+-- article or step i has this name, which is not empty
+abbrev pub Has : Job (List ℕ) → List ℕ → ℕ → Type 0
+Has job name i = (name ≡ [] → ⊥) × (i < size job) × (getD (namesOf (job .entries)) i [] ≡ name)
+
+-- n, w, order, wishes and clashes agree
+abbrev pub Alike : Job (List ℕ) → Job (List ℕ) → Type 0
+Alike a b = (size a ≡ size b) × (wishCount a ≡ wishCount b) × (order a ≡ order b) × (wishes a ≡ wishes b) × (clashes a ≡ clashes b)
 
 -- ---- demand 3: what the choice and the planner answer where their input is accepted
 
--- On a refusal: it is "no selection", and no clash-free set covering the order has a number at or above the floor. On a value: the selection is such
+-- On a refusal: it is 14, "no selection", and no clash-free set covering the order has a number at or above the floor. On a value: the selection is such
 -- a set, and every other one has a greater number; the set aside is the one that is defined; and none of its articles lies in any clash-free set
 -- covering the order, whatever that set's number.
-abbrev pub ChoiceKept : Job (List ℕ) → (ℕ → ℕ) → List ℕ → ℕ → Answer Chosen → Type 0
-ChoiceKept job group goals floor (refusal reason place) = (reason ≡ NoSelection) × ((x : ℕ) → Selection (networkOf job) (order job) x → floor ≤ x → ⊥)
-ChoiceKept job group goals floor (value c) =
+abbrev pub ChoiceKept : Job (List ℕ) → (ℕ → ℕ) → List ℕ → ℕ → Said Chosen → Type 0
+ChoiceKept job group goals floor (refusedBy number place) = (number ≡ 14) × (place ≡ 0) × ((x : ℕ) → Selection (networkOf job) (order job) x → floor ≤ x → ⊥)
+ChoiceKept job group goals floor (answered c) =
     LeastFrom (Selection (networkOf job) (order job)) floor (c .selection) × (c .aside ≡ setAside (networkOf job) group goals) × ((x u : ℕ) → Selection (networkOf job) (order job) x → u ∈ c .aside → u ∈ x → ⊥)
 
--- On a refusal: it is "no plan", no plan within the horizon exists, and nothing was written. On a value: that many words in front are, in order, all
+-- On a refusal: it is 15, "no plan", no plan within the horizon exists, and nothing was written. On a value: that many words in front are, in order, all
 -- the rounds of a plan; the plan is within the horizon; no plan has fewer rounds; and the later words keep.
-abbrev pub PlanKept : Job (List ℕ) → List ℕ → List ℕ → Answer ℕ → Type 0
-PlanKept job old new (refusal reason place) = (reason ≡ NoPlan) × ((rs : List ℕ) → Plan (fittingOf job) rs → length rs ≤ horizon job → ⊥) × (new ≡ old)
-PlanKept job old new (value k) =
+abbrev pub PlanKept : Job (List ℕ) → List ℕ → List ℕ → Said ℕ → Type 0
+PlanKept job old new (refusedBy number place) = (number ≡ 15) × (place ≡ 0) × ((rs : List ℕ) → Plan (fittingOf job) rs → length rs ≤ horizon job → ⊥) × (new ≡ old)
+PlanKept job old new (answered k) =
     (k ≤ horizon job) × (length (take k new) ≡ k) × Plan (fittingOf job) (take k new) × ((rs : List ℕ) → Plan (fittingOf job) rs → k ≤ length rs) × (drop k new ≡ drop k old)

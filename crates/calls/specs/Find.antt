@@ -6,7 +6,7 @@ use Rattle.reading.specs.declared.Reason.the-variants.{NameNotFound}
 use Rattle.jobfile.specs.Job.{Job, namesOf, size}
 use Rattle.jobfile.specs.Read.{readJob, either}
 use Rattle.matching.specs.Names.{lowestNamed}
-use Rattle.lending.specs.Answers.{Answer, refusal, value, onJob, found}
+use Rattle.lending.specs.Answers.{Answer, onJob, found, Said, answered, refusalSaid}
 use Rattle.calls.specs.declared.FindAnswer.{FindAnswer}
 use Rattle.calls.specs.declared.FindAnswer.the-variants as FindAnswer
 
@@ -19,6 +19,6 @@ abbrev pub findOf : List ℕ → List ℕ → Answer ℕ
 findOf file name = onJob (readJob either file) (λ job. findIn job name)
 
 -- what the code's answer says
-abbrev pub findTold : FindAnswer → Answer ℕ
-findTold (FindAnswer.Refused x) = refusal (x .reason) (x .place)
-findTold (FindAnswer.Number i) = value i
+abbrev pub findTold : FindAnswer → Said ℕ
+findTold (FindAnswer.Refused x) = refusalSaid x
+findTold (FindAnswer.Number i) = answered i

@@ -6,7 +6,7 @@ use Rattle.jobfile.specs.Job.{Job, horizon}
 use Rattle.jobfile.specs.Read.{readJob, fittings}
 use Rattle.graph.specs.Rounds.{fittingOf}
 use Rattle.graph.specs.Layers.{Layer, factLayer, roundLayer}
-use Rattle.lending.specs.Answers.{Answer, refusal, value, onJob, behind, Left, leaving}
+use Rattle.lending.specs.Answers.{Answer, value, onJob, behind, Said, answered, refusalSaid, Left, leaving}
 use Rattle.lending.specs.Tests.{layerTest}
 use Rattle.calls.specs.declared.FactsAnswer.{FactsAnswer}
 use Rattle.calls.specs.declared.FactsAnswer.the-variants as FactsAnswer
@@ -29,10 +29,10 @@ abbrev pub roundLayerOf : List ℕ → ℕ → List ℕ → Left ℕ
 roundLayerOf file k buffer = leaving (λ layer. layer .words) (λ layer. layer .members) buffer (onJob (readJob fittings file) (λ job. roundLayerIn job k buffer))
 
 -- what the code's answers say
-abbrev pub factsTold : FactsAnswer → Answer ℕ
-factsTold (FactsAnswer.Refused x) = refusal (x .reason) (x .place)
-factsTold (FactsAnswer.Facts s) = value s
+abbrev pub factsTold : FactsAnswer → Said ℕ
+factsTold (FactsAnswer.Refused x) = refusalSaid x
+factsTold (FactsAnswer.Facts s) = answered s
 
-abbrev pub verticesTold : VerticesAnswer → Answer ℕ
-verticesTold (VerticesAnswer.Refused x) = refusal (x .reason) (x .place)
-verticesTold (VerticesAnswer.Vertices s) = value s
+abbrev pub verticesTold : VerticesAnswer → Said ℕ
+verticesTold (VerticesAnswer.Refused x) = refusalSaid x
+verticesTold (VerticesAnswer.Vertices s) = answered s

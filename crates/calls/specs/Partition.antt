@@ -6,7 +6,7 @@ use Rattle.jobfile.specs.Job.{Job, size}
 use Rattle.jobfile.specs.Read.{readJob, choices}
 use Rattle.network.specs.Network.{networkOf}
 use Rattle.network.specs.Groups.{groupsTo}
-use Rattle.lending.specs.Answers.{Answer, refusal, value, onJob, behind, Left, leaving}
+use Rattle.lending.specs.Answers.{Answer, value, onJob, behind, Said, answered, refusalSaid, Left, leaving}
 use Rattle.lending.specs.Tests.{roomTest}
 use Rattle.calls.specs.declared.PartitionAnswer.{PartitionAnswer}
 use Rattle.calls.specs.declared.PartitionAnswer.the-variants as PartitionAnswer
@@ -20,6 +20,6 @@ abbrev pub partitionOf : List ℕ → List ℕ → Left (Unit {0})
 partitionOf file buffer = leaving (λ groups. groups) (λ groups. tt) buffer (onJob (readJob choices file) (λ job. partitionIn job buffer))
 
 -- what the code's answer says
-abbrev pub partitionTold : PartitionAnswer → Answer (Unit {0})
-partitionTold (PartitionAnswer.Refused x) = refusal (x .reason) (x .place)
-partitionTold PartitionAnswer.Done = value tt
+abbrev pub partitionTold : PartitionAnswer → Said (Unit {0})
+partitionTold (PartitionAnswer.Refused x) = refusalSaid x
+partitionTold PartitionAnswer.Done = answered tt

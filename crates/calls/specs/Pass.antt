@@ -6,7 +6,7 @@ use Rattle.jobfile.specs.Job.{Job, size, order}
 use Rattle.jobfile.specs.Read.{readJob, choices}
 use Rattle.network.specs.Network.{networkOf}
 use Rattle.network.specs.Filter.{pass}
-use Rattle.lending.specs.Answers.{Answer, refusal, value, onJob, behind}
+use Rattle.lending.specs.Answers.{Answer, value, onJob, behind, Said, answered, refusalSaid}
 use Rattle.lending.specs.Tests.{groupsTest, passTest}
 use Rattle.calls.specs.declared.PassAnswer.{PassAnswer}
 use Rattle.calls.specs.declared.PassAnswer.the-variants as PassAnswer
@@ -23,6 +23,6 @@ abbrev pub passOf : List ℕ → List ℕ → ℕ → ℕ → Answer ℕ
 passOf file groups live goal = onJob (readJob choices file) (λ job. passIn job groups live goal)
 
 -- what the code's answer says
-abbrev pub passTold : PassAnswer → Answer ℕ
-passTold (PassAnswer.Refused x) = refusal (x .reason) (x .place)
-passTold (PassAnswer.Live s) = value (s .bits)
+abbrev pub passTold : PassAnswer → Said ℕ
+passTold (PassAnswer.Refused x) = refusalSaid x
+passTold (PassAnswer.Live s) = answered (s .bits)

@@ -8,7 +8,7 @@ use Rattle.reading.specs.Got.{Got, got, refused}
 use Rattle.jobfile.specs.Job.{Job, horizon}
 use Rattle.jobfile.specs.Read.{readJob, fittings}
 use Rattle.graph.specs.Rounds.{Fitting, fittingOf, Plan, fewest}
-use Rattle.lending.specs.Answers.{Answer, refusal, value, onJob, behind, found}
+use Rattle.lending.specs.Answers.{Answer, refusal, value, onJob, behind, found, Said, answered, refusalSaid}
 use Rattle.lending.specs.Tests.{roomTest}
 use Rattle.calls.specs.declared.PlanAnswer.{PlanAnswer}
 use Rattle.calls.specs.declared.PlanAnswer.the-variants as PlanAnswer
@@ -22,9 +22,9 @@ abbrev pub planOf : List ℕ → List ℕ → Answer ℕ
 planOf file buffer = onJob (readJob fittings file) (λ job. planIn job buffer)
 
 -- what the code's answer says
-abbrev pub planTold : PlanAnswer → Answer ℕ
-planTold (PlanAnswer.Refused x) = refusal (x .reason) (x .place)
-planTold (PlanAnswer.Rounds k) = value k
+abbrev pub planTold : PlanAnswer → Said ℕ
+planTold (PlanAnswer.Refused x) = refusalSaid x
+planTold (PlanAnswer.Rounds k) = answered k
 
 -- The buffer afterwards. Where k rounds are answered its first k words are the rounds of a plan, in their order, which one is left free, and the
 -- others keep; and otherwise all words keep

@@ -1,19 +1,19 @@
 // The open calls, in the order of docs/RULES.md. Each takes the bytes of a file and its other arguments
 // as they come: no call requires anything. The file is tested first, then the arguments in the order of
-// the reasons' numbers. A contract is one equation with specs/, for every input, which fixes the answer
-// and the buffer that is lent; only the words of a plan are left free, and `Buffer` says what holds of
-// them.
+// the reasons' numbers. A contract is one equation with specs/, for every input, which fixes the answer,
+// a refusal by its number and place, and the buffer that is lent; only the words of a plan are left
+// free, and `Buffer` says what holds of them.
 ghost use mathlib.Core.Path.{_≡_};
 ghost use Rattle.reading.specs.declared.Reason.the-variants.{NameNotFound};
-ghost use Rattle.jobfile.specs.Read.{readJob, fittings, either};
-ghost use Rattle.jobfile.specs.Answers.{nameIn};
+ghost use Rattle.jobfile.specs.Read.{readJob, fittings};
 ghost use Rattle.matching.specs.Names.{placeOf};
-ghost use Rattle.lending.specs.Answers.{found};
+ghost use Rattle.lending.specs.Answers.{found, said};
 ghost use Rattle.calls.specs.Partition.{partitionOf, partitionTold};
 ghost use Rattle.calls.specs.Pass.{passOf, passTold};
 ghost use Rattle.calls.specs.Choose.{chooseOf, choiceTold};
 ghost use Rattle.calls.specs.Layers.{factLayerOf, factsTold, roundLayerOf, verticesTold};
 ghost use Rattle.calls.specs.Plan.{planOf, planTold, Buffer};
+ghost use Rattle.calls.specs.Name.{nameOf};
 ghost use Rattle.calls.specs.Find.{findOf, findTold};
 ghost use Rattle.calls.specs.Compare.{compareOf, compareTold};
 use choice::Choice;
@@ -61,7 +61,7 @@ pub enum PassAnswer {
 
 // A pass of the filter, by the groups lent: the live articles that are supported.
 pub fn pass(file: &[u8], groups: &[u8], live: ArticleSet, goal: u64) -> PassAnswer
-    ensures { λ r. ⌜ passTold r ≡ passOf (now (file .entry)) (now (groups .entry)) (live .bits) goal ⌝ }
+    ensures { λ r. ⌜ passTold r ≡ said (passOf (now (file .entry)) (now (groups .entry)) (live .bits) goal) ⌝ }
 {
     let read = jobfile::read_choice(file);
     let verdict = read.verdict;
@@ -91,7 +91,7 @@ pub enum ChoiceAnswer {
 // The smallest selection at or above the floor, with the articles that the filter set aside: by the
 // groups lent, with a pass for each goal in turn.
 pub fn choose(file: &[u8], groups: &[u8], goals: &[u64], floor: u64) -> ChoiceAnswer
-    ensures { λ r. ⌜ choiceTold r ≡ chooseOf (now (file .entry)) (now (groups .entry)) (now (goals .entry)) floor ⌝ }
+    ensures { λ r. ⌜ choiceTold r ≡ said (chooseOf (now (file .entry)) (now (groups .entry)) (now (goals .entry)) floor) ⌝ }
 {
     let read = jobfile::read_choice(file);
     let verdict = read.verdict;
@@ -188,7 +188,7 @@ pub enum PlanAnswer {
 // The fewest rounds of a plan within the file's horizon; the rounds of such a plan stand in the words
 // in front, in their order, each as a set of steps. Which of the shortest plans it is, is free.
 pub fn plan(file: &[u8], words: &mut [u32]) -> PlanAnswer
-    ensures { λ r. ⌜ planTold r ≡ planOf (now (file .entry)) (now (words .entry)) ⌝ }
+    ensures { λ r. ⌜ planTold r ≡ said (planOf (now (file .entry)) (now (words .entry))) ⌝ }
     ensures { λ r. ⌜ Buffer (readJob fittings (now (file .entry))) (now (words .entry)) (now (words .exit)) (planOf (now (file .entry)) (now (words .entry))) ⌝ }
 {
     let read = jobfile::read_fitting(file);
@@ -212,7 +212,7 @@ pub fn plan(file: &[u8], words: &mut [u32]) -> PlanAnswer
 // The name of article or step `number`, as a part of the file: empty for a refused file, an absent
 // number or no name.
 pub fn name(file: &[u8], number: usize) -> &[u8]
-    ensures { λ r. ⌜ now r ≡ nameIn (readJob either (now (file .entry))) number ⌝ }
+    ensures { λ r. ⌜ now r ≡ nameOf (now (file .entry)) number ⌝ }
 {
     let spot = jobfile::spot(file, number);
     let a = spot.start;
@@ -228,7 +228,7 @@ pub enum FindAnswer {
 
 // What was found, or 16.
 fn found(named: Named) -> FindAnswer
-    ensures { λ r. ⌜ findTold r ≡ found (placeOf named) NameNotFound ⌝ }
+    ensures { λ r. ⌜ findTold r ≡ said (found (placeOf named) NameNotFound) ⌝ }
 {
     match named {
         Named::At(i) => FindAnswer::Number(i),
@@ -238,7 +238,7 @@ fn found(named: Named) -> FindAnswer
 
 // The lowest number of an article or step with this name.
 pub fn find(file: &[u8], name: &[u8]) -> FindAnswer
-    ensures { λ r. ⌜ findTold r ≡ findOf (now (file .entry)) (now (name .entry)) ⌝ }
+    ensures { λ r. ⌜ findTold r ≡ said (findOf (now (file .entry)) (now (name .entry))) ⌝ }
 {
     if jobfile::is_fitting(file) {
         let read = jobfile::read_fitting(file);
@@ -269,7 +269,7 @@ pub enum CompareAnswer {
 
 // Whether two choice files are alike; the first is tested before the second.
 pub fn compare(first: &[u8], second: &[u8]) -> CompareAnswer
-    ensures { λ r. ⌜ compareTold r ≡ compareOf (now (first .entry)) (now (second .entry)) ⌝ }
+    ensures { λ r. ⌜ compareTold r ≡ said (compareOf (now (first .entry)) (now (second .entry))) ⌝ }
 {
     let a = jobfile::read_choice(first);
     let verdict = a.verdict;

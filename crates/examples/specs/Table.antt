@@ -4,7 +4,8 @@ use mathlib.Core.List.{List, [], _∷_, _++_}
 use Prim.Native.Nat.{ℕ, _+_, _*_, _/_, _%_, _^_}
 use lib.ListN.{length, replicate}
 use Rattle.sets.specs.Sets.{setOf}
-use Rattle.reading.specs.declared.Reason.the-variants.{EndsEarly, OverLimit, TrailingBytes, ShortBuffer, NoSelection, NoPlan}
+use Rattle.reading.specs.declared.Reason.the-variants.{ShortBuffer}
+use Rattle.reading.specs.Reasons.{numberOf}
 use Rattle.jobfile.specs.Job.{Job, size}
 use Rattle.jobfile.specs.Read.{readJob, fittings}
 use Rattle.graph.specs.Rounds.{fittingOf, isPlan}
@@ -26,6 +27,15 @@ pub record Row : Type 1 where
 abbrev pub Hold : List Row → Type 0
 Hold [] = Unit
 Hold (row ∷ rows) = (row .given ≡ row .stated) × Hold rows
+
+-- an answer in the words of the rules: the number of the reason and the place, or the value
+pub data Said (A : Type 0) : Type 0 where
+  refused : ℕ → ℕ → Said A
+  answered : A → Said A
+
+abbrev pub said : {A : Type 0} → Answer A → Said A
+said (refusal reason place) = refused (numberOf reason) place
+said (value x) = answered x
 
 -- so many bytes or words that are lent, each of them 9
 abbrev nines : ℕ → List ℕ
@@ -66,18 +76,18 @@ rows =
     ∷ record { Answer = Answer Chosen; given = atFloor fileA 0; stated = chosen 4 0 }
     ∷ record { Answer = Answer Chosen; given = atFloor fileA 5; stated = chosen 5 0 }
     ∷ record { Answer = Answer Chosen; given = atFloor fileA 6; stated = chosen 6 0 }
-    ∷ record { Answer = Answer Chosen; given = atFloor fileA 7; stated = refusal NoSelection 0 }
-    ∷ record { Answer = Answer Chosen; given = atFloor fileShort 0; stated = refusal EndsEarly 45 }
-    ∷ record { Answer = Answer Chosen; given = atFloor fileLong 0; stated = refusal TrailingBytes 46 }
+    ∷ record { Answer = Said Chosen; given = said (atFloor fileA 7); stated = refused 14 0 }
+    ∷ record { Answer = Said Chosen; given = said (atFloor fileShort 0); stated = refused 2 45 }
+    ∷ record { Answer = Said Chosen; given = said (atFloor fileLong 0); stated = refused 8 46 }
     ∷ record { Answer = Left (Unit {0}); given = partitionOf fileB (nines 3); stated = leaves (0 ∷ 0 ∷ 1 ∷ []) }
     ∷ record { Answer = Answer ℕ; given = passOf fileB (0 ∷ 0 ∷ 1 ∷ []) 7 7; stated = value 6 }
     ∷ record { Answer = Answer ℕ; given = passOf fileB (0 ∷ 0 ∷ 1 ∷ []) 7 1; stated = value 7 }
     ∷ record { Answer = Answer Chosen; given = chooseOf fileEmpty [] [] 0; stated = chosen 0 0 }
-    ∷ record { Answer = Answer Chosen; given = chooseOf fileMany [] [] 0; stated = refusal OverLimit 1 }
+    ∷ record { Answer = Said Chosen; given = said (chooseOf fileMany [] [] 0); stated = refused 3 1 }
     ∷ record { Answer = Answer ℕ; given = planOf fileF (nines 3); stated = value 2 }
     ∷ record { Answer = Answer ℕ; given = planPairsOf fileF; stated = value (2 ^ (1 * 8 + 6)) }
-    ∷ record { Answer = Answer ℕ; given = planOf fileNear (nines 3); stated = refusal NoPlan 0 }
-    ∷ record { Answer = Answer ℕ; given = planOf fileG (nines 2); stated = value 2 }
+    ∷ record { Answer = Said ℕ; given = said (planOf fileNear (nines 3)); stated = refused 15 0 }
+    ∷ record { Answer = Said ℕ; given = said (planOf fileG (nines 2)); stated = answered 2 }
     ∷ record { Answer = Answer ℕ; given = planPairsOf fileG; stated = value (2 ^ (2 * 4 + 1)) }
     ∷ record { Answer = Left ℕ; given = factLayerOf fileG 1 (nines 33); stated = layer 3 2 1 }
     ∷ record { Answer = Left ℕ; given = factLayerOf fileG 2 (nines 33); stated = layer 3 0 0 }

@@ -11,7 +11,7 @@ use lib.ListN.{length, getD, length-map}
 use borrow.Author.Tests.{ltb-false}
 use Rattle.sets.proofs.Ranges.{neither}
 use Rattle.reading.specs.declared.Reason.{Reason}
-use Rattle.reading.specs.declared.Reason.the-variants.{LayerOutOfRange, ShortBuffer, FalsePartition, BadGoal}
+use Rattle.reading.specs.declared.Reason.the-variants.{OutOfRange, ShortBuffer, FalsePartition, BadGoal}
 use Rattle.reading.specs.declared.Refusal.{Refusal}
 use Rattle.reading.specs.declared.Spot.{Spot}
 use Rattle.reading.specs.Got.{got}
@@ -56,7 +56,7 @@ room-passed len size h k = ltb-false len size (unless-passed (ltb len size) Shor
 
 pub layer-passed : (k lowest highest len size : ℕ) {v : Verdict} → v ≡ verdictOf (layerTest k lowest highest len size) → v ≡ Verdict.Accepted → (lowest ≤ k) × (k ≤ highest) × (size ≤ len)
 layer-passed k lowest highest len size h a =
-    let (fine, rest) = unless-passed (ltb k lowest || ltb highest k) LayerOutOfRange (roomTest len size) h a in
+    let (fine, rest) = unless-passed (ltb k lowest || ltb highest k) OutOfRange (roomTest len size) h a in
     let (low, high) = neither (ltb k lowest) (ltb highest k) fine in
     (ltb-false k lowest low, ltb-false highest k high, room-passed len size rest a)
 

@@ -6,7 +6,8 @@ use mathlib.Core.Option.{Option, none, some}
 use Prim.Native.Nat.{ℕ}
 use lib.ListN.{length, drop}
 use Rattle.reading.specs.declared.Reason.{Reason}
-use Rattle.reading.specs.Reasons.{answers}
+use Rattle.reading.specs.declared.Refusal.{Refusal}
+use Rattle.reading.specs.Reasons.{numberOf, answers}
 use Rattle.reading.specs.Got.{Got, got, refused}
 
 pub data Answer (A : Type 0) : Type 0 where
@@ -41,19 +42,34 @@ abbrev pub found : {A : Type 0} → Option A → Reason → Answer A
 found (some x) reason = value x
 found none reason = refusal reason 0
 
+-- ---- an answer in the words of the rules
+
+-- a refusal by the number of its reason, with its place; or a value. Contracts and promises are stated with it.
+pub data Said (A : Type 0) : Type 0 where
+  refusedBy : ℕ → ℕ → Said A
+  answered : A → Said A
+
+abbrev pub said : {A : Type 0} → Answer A → Said A
+said (refusal reason place) = refusedBy (numberOf reason) place
+said (value x) = answered x
+
+-- what a refusal of the code says
+abbrev pub refusalSaid : {A : Type 0} → Refusal → Said A
+refusalSaid r = refusedBy (numberOf (r .reason)) (r .place)
+
 -- input is accepted if no reason other than 14 to 16 turns the call down
-abbrev pub accepted : {A : Type 0} → Answer A → Bool
-accepted (refusal reason place) = answers reason
-accepted (value x) = true
+abbrev pub accepted : {A : Type 0} → Said A → Bool
+accepted (refusedBy number place) = answers number
+accepted (answered x) = true
 
 -- ---- calls that write
 
--- what such a call leaves: its answer, and the buffer that was lent
+-- what such a call leaves: what it says, and the buffer that was lent
 pub record Left (A : Type 0) : Type 0 where
-  pub answer : Answer A
+  pub answer : Said A
   pub buffer : List ℕ
 
 -- the words that were made stand in front, and the later ones keep; a refusal writes nothing
 abbrev pub leaving : {A B : Type 0} → (A → List ℕ) → (A → B) → List ℕ → Answer A → Left B
-leaving words told old (refusal reason place) = record { answer = refusal reason place; buffer = old }
-leaving words told old (value x) = record { answer = value (told x); buffer = words x ++ drop (length (words x)) old }
+leaving words told old (refusal reason place) = record { answer = said (refusal reason place); buffer = old }
+leaving words told old (value x) = record { answer = answered (told x); buffer = words x ++ drop (length (words x)) old }

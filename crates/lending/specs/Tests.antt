@@ -4,7 +4,7 @@ use mathlib.Core.List.{List}
 use Prim.Native.Nat.{ℕ}
 use lib.Dec.{ltb}
 use lib.ListN.{length, getD}
-use Rattle.reading.specs.declared.Reason.the-variants.{LayerOutOfRange, ShortBuffer, FalsePartition, LiveOutsideFile, BadGoal}
+use Rattle.reading.specs.declared.Reason.the-variants.{OutOfRange, ShortBuffer, FalsePartition, LiveOutsideFile, BadGoal}
 use Rattle.jobfile.specs.declared.Verdict.{Verdict}
 use Rattle.jobfile.specs.declared.Verdict.the-variants as Verdict
 use Rattle.jobfile.specs.declared.ReadChoice.{ReadChoice}
@@ -19,7 +19,7 @@ roomTest len size = unless (ltb len size) ShortBuffer passed
 
 -- 9 and 10: a layer's number is in its range, and the buffer has room for its words
 abbrev pub layerTest : ℕ → ℕ → ℕ → ℕ → ℕ → Answer (Unit {0})
-layerTest k lowest highest len size = unless (ltb k lowest || ltb highest k) LayerOutOfRange (unless (ltb len size) ShortBuffer passed)
+layerTest k lowest highest len size = unless (ltb k lowest || ltb highest k) OutOfRange (unless (ltb len size) ShortBuffer passed)
 
 -- 10 and 11: the groups that are lent have a byte an article, and are a partition
 abbrev pub groupsTest : Network → List ℕ → Answer (Unit {0})

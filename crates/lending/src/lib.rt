@@ -51,7 +51,7 @@ pub fn layer(k: usize, lowest: usize, highest: usize, len: usize, size: usize) -
     ensures { λ r. ⌜ r ≡ verdictOf (layerTest k lowest highest len size) ⌝ }
 {
     if !in_range(k, lowest, highest) {
-        return Verdict::Refused(refusal_at(Reason::LayerOutOfRange, 0));
+        return Verdict::Refused(refusal_at(Reason::OutOfRange, 0));
     }
     if len < size {
         return Verdict::Refused(refusal_at(Reason::ShortBuffer, 0));

@@ -1,9 +1,9 @@
 -- The reasons to turn a call down, by the numbers of docs/RULES.md, "Reasons to turn a call down".
-use mathlib.Core.Bool.{Bool}
+use mathlib.Core.Bool.{Bool, _&&_}
 use Prim.Native.Nat.{ℕ}
 use lib.Dec.{leb}
 use Rattle.reading.specs.declared.Reason.{Reason}
-use Rattle.reading.specs.declared.Reason.the-variants.{WrongKind, EndsEarly, OverLimit, ForbiddenBit, EmptyField, AbsentMember, LongName, TrailingBytes, LayerOutOfRange, ShortBuffer, FalsePartition, LiveOutsideFile, BadGoal, NoSelection, NoPlan, NameNotFound}
+use Rattle.reading.specs.declared.Reason.the-variants.{WrongKind, EndsEarly, OverLimit, ForbiddenBit, EmptyField, AbsentMember, LongName, TrailingBytes, OutOfRange, ShortBuffer, FalsePartition, LiveOutsideFile, BadGoal, NoSelection, NoPlan, NameNotFound}
 
 abbrev pub numberOf : Reason → ℕ
 numberOf WrongKind = 1
@@ -14,7 +14,7 @@ numberOf EmptyField = 5
 numberOf AbsentMember = 6
 numberOf LongName = 7
 numberOf TrailingBytes = 8
-numberOf LayerOutOfRange = 9
+numberOf OutOfRange = 9
 numberOf ShortBuffer = 10
 numberOf FalsePartition = 11
 numberOf LiveOutsideFile = 12
@@ -23,6 +23,6 @@ numberOf NoSelection = 14
 numberOf NoPlan = 15
 numberOf NameNotFound = 16
 
--- the reasons that are answers to input that is accepted: 14, 15 and 16
-abbrev pub answers : Reason → Bool
-answers reason = leb 14 (numberOf reason)
+-- the numbers that are answers to input that is accepted: 14, 15 and 16. A later number is a refusal.
+abbrev pub answers : ℕ → Bool
+answers number = leb 14 number && leb number 16

@@ -2,7 +2,7 @@
 use borrow.Author.Needs.{needs}
 use mathlib.Core.Path.{ap, _∙_}
 use denote.Ref.{now}
-use Rattle.lending.specs.Answers.{refusal}
+use Rattle.lending.specs.Answers.{refusalSaid}
 use Rattle.calls.proofs.CallLaws.{choice-read}
 use Rattle.calls.proofs.ChoiceLaws.{choose-down, choose-groups, choose-goals, choose-may, choose-made}
 use Rattle.calls.proofs.choose.Statement.{statement}
@@ -83,7 +83,7 @@ returns-5 c =
     let a = c .before .before .before .before .before .before .before .before .before .before .before .before .before .before .before .before .before .before .before .before .args in
     let r = c .before .before .before .before .before .before .before .before .before .before .before .before .before .before .before .before .read-choice in
     let R = choice-read (now (a .file)) (r .result) (r .ensures .0) (r .ensures .1) (c .before .before .before .before .before .before .before .before .before .before .before .before .before .before .enum-told .given .1) in
-    ap (λ x. refusal (x .reason) (x .place)) (c .refusal-at .ensures)
+    ap refusalSaid (c .refusal-at .ensures)
     ∙ choose-made (now (a .file)) (now (a .groups)) (now (a .goals)) (a .floor) (r .result) R (c .before .before .before .before .before .before .before .before .before .before .before .before .before .groups .ensures) (c .before .before .before .before .before .before .before .before .before .before .before .enum-told2 .given .1) (c .before .before .before .before .before .before .before .before .before .before .goals .ensures) (c .before .before .before .before .before .before .before .before .enum-told3 .given .1) (c .before .before .before .choose .ensures) (c .before .enum-told4 .given .1)
 
 pub choose-spec : {M : Type 1} → statement M

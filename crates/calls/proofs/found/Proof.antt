@@ -3,7 +3,7 @@ use borrow.Author.Needs.{needs}
 use mathlib.Core.Path.{ap, sym, _∙_}
 use Rattle.reading.specs.declared.Reason.the-variants.{NameNotFound}
 use Rattle.matching.specs.Names.{placeOf}
-use Rattle.lending.specs.Answers.{refusal, found}
+use Rattle.lending.specs.Answers.{found, said, refusalSaid}
 use Rattle.calls.proofs.found.Statement.{statement}
 use Rattle.calls.proofs.found.Tie as tie
 
@@ -17,10 +17,10 @@ refusal-at-requires : tie.Need-refusal-at-requires
 refusal-at-requires c κs = search needs
 
 returns : tie.Need-returns
-returns c = sym (ap (λ n. found (placeOf n) NameNotFound) (c .before .named .given .1))
+returns c = sym (ap (λ n. said (found (placeOf n) NameNotFound)) (c .before .named .given .1))
 
 returns-2 : tie.Need-returns-2
-returns-2 c = ap (λ x. refusal (x .reason) (x .place)) (c .refusal-at .ensures) ∙ sym (ap (λ n. found (placeOf n) NameNotFound) (c .before .enum-told .given .1))
+returns-2 c = ap refusalSaid (c .refusal-at .ensures) ∙ sym (ap (λ n. said (found (placeOf n) NameNotFound)) (c .before .enum-told .given .1))
 
 pub found-spec : {M : Type 1} → statement M
 found-spec = tie.close (tie.spec enum-known-named enum-told refusal-at-requires returns returns-2)

@@ -2,7 +2,7 @@
 use borrow.Author.Needs.{needs}
 use mathlib.Core.Path.{refl, ap, sym, subst}
 use denote.Ref.{now}
-use Rattle.lending.specs.Answers.{refusal}
+use Rattle.lending.specs.Answers.{refusalSaid}
 use Rattle.lending.proofs.TestLaws.{room-passed}
 use Rattle.expansion.proofs.ReadLaws.{sized-read}
 use Rattle.calls.proofs.CallLaws.{fitting-job}
@@ -74,7 +74,7 @@ returns-4 c =
     let r = c .before .before .before .before .before .before .before .before .before .before .before .before .read-fitting in
     let R = fitting-job (now (a .file)) (r .result) (r .ensures .0) (r .ensures .1) (c .before .before .before .before .before .before .before .before .before .before .enum-told .given .1) in
     let p = c .before .before .before .before .before .plan in
-    subst (λ x. Promised (now (a .file)) (now (a .words)) (p .last .1 .0) (refusal (x .reason) (x .place))) (sym (c .refusal-at .ensures))
+    subst (λ x. Promised (now (a .file)) (now (a .words)) (p .last .1 .0) (refusalSaid x)) (sym (c .refusal-at .ensures))
     (plan-none (now (a .file)) (now (a .words)) (p .last .1 .0) (r .result) R (c .before .before .before .before .before .before .before .before .before .room .ensures) (c .before .before .before .before .before .before .before .enum-told2 .given .1) (p .ensures .0) (p .ensures .1) (c .before .enum-told3 .given .1))
 
 pub plan-spec : {M : Type 1} → statement M
