@@ -4,7 +4,6 @@ use mathlib.Core.List.{List, [], _++_}
 use mathlib.Core.Option.{Option, none, some}
 use Prim.Native.Nat.{ℕ, _≤_}
 use lib.ListN.{length, getD, drop}
-use Rattle.reading.specs.declared.Reason.the-variants.{NoSelection}
 use Rattle.reading.specs.declared.Refusal.{Refusal}
 use Rattle.reading.specs.Items.{spots}
 use Rattle.jobfile.specs.declared.Verdict.{Verdict}
@@ -19,14 +18,13 @@ use Rattle.network.proofs.GroupLaws.{groups-length, lent-right}
 use Rattle.network.proofs.GoalLaws.{goals-within}
 use Rattle.network.proofs.ListedLaws.{groups-listed, pass-listed}
 use Rattle.choice.specs.declared.Choice.{Choice}
-use Rattle.choice.specs.declared.Choice.the-variants as Choice
 use Rattle.choice.specs.Choice.{selection, chosenBy, chosen}
 use Rattle.lending.specs.Answers.{Answer, refusal, value, onJob, behind, Said, answered, said, refusalSaid, Left, leaving}
 use Rattle.lending.specs.Tests.{roomTest, groupsTest, passTest, goalsTest, verdictOf, networkIn}
 use Rattle.lending.proofs.TestLaws.{stopped, through, groups-passed, goals-passed}
 use Rattle.calls.specs.Partition.{partitionIn, partitionOf}
 use Rattle.calls.specs.Pass.{passIn, passOf}
-use Rattle.calls.specs.Choose.{Chosen, chosenOr, chooseIn, chooseOf}
+use Rattle.calls.specs.Choose.{Chosen, chosenOr, chooseIn, chooseOf, searched}
 use Rattle.calls.proofs.CallLaws.{choice-down, job-down, on-job, ChoiceRead}
 
 -- ---- the partition
@@ -93,14 +91,9 @@ module _ (f groups : List ℕ) (live goal : ℕ) where
 
 -- ---- the choice
 
--- what the search answers, in the words of the rules
-abbrev pub told : Choice → Answer Chosen
-told (Choice.Chosen x aside) = value (record { selection = x; aside = aside })
-told Choice.Nothing = refusal NoSelection 0
-
-pub told-is : (o : Option ℕ) (aside : ℕ) → told (chosenBy o aside) ≡ chosenOr o aside
-told-is none aside = refl
-told-is (some x) aside = refl
+pub searched-is : (o : Option ℕ) (aside : ℕ) → searched (chosenBy o aside) ≡ chosenOr o aside
+searched-is none aside = refl
+searched-is (some x) aside = refl
 
 module _ (f groups goals : List ℕ) (floor : ℕ) where
   pub choose-down : {v : Verdict} {x : Refusal} → v ≡ choiceOf (read spots choices f) .verdict → v ≡ Verdict.Refused x → refusalSaid x ≡ said (chooseOf f groups goals floor)
@@ -132,8 +125,8 @@ module _ (f groups goals : List ℕ) (floor : ℕ) where
           let (room, right) = groups-passed (networkIn r) groups e ok in
           (room, lent-right (networkIn r) (λ u. getD groups u 0) right, goals-within (r .order) goals (goals-passed (r .order) goals h q))
 
-      pub choose-made : {c d : Choice} → t ≡ Verdict.Accepted → c ≡ chosen (networkIn r) (λ u. getD groups u 0) goals (r .order) floor → c ≡ d → said (told d) ≡ said (chooseOf f groups goals floor)
-      choose-made q p k =
+      pub choose-made : {c : Choice} → t ≡ Verdict.Accepted → c ≡ chosen (networkIn r) (λ u. getD groups u 0) goals (r .order) floor → said (searched c) ≡ said (chooseOf f groups goals floor)
+      choose-made q p =
           behind-partition
-          (ap told (sym k ∙ p) ∙ told-is (selection (networkIn r) (r .order) floor) (setAside (networkIn r) (λ u. getD groups u 0) goals)
+          (ap searched p ∙ searched-is (selection (networkIn r) (r .order) floor) (setAside (networkIn r) (λ u. getD groups u 0) goals)
           ∙ through (goalsTest (r .order) goals) (chosenOver (networkIn r) (r .order)) h q)

@@ -1,8 +1,6 @@
--- The laws behind the open calls, and the demands.
-pub mod ReasonLaws
+-- The laws that the open calls are proved with.
 pub mod CallLaws
 pub mod ChoiceLaws
+pub mod OfferLaws
 pub mod FittingLaws
 pub mod NameLaws
-pub mod DemandLaws
-pub mod Demands

@@ -8,6 +8,8 @@ use Rattle.jobfile.specs.Job.{Job, order}
 use Rattle.jobfile.specs.Read.{readJob, choices}
 use Rattle.network.specs.Network.{networkOf}
 use Rattle.network.specs.Filter.{setAside}
+use Rattle.choice.specs.declared.Choice.{Choice}
+use Rattle.choice.specs.declared.Choice.the-variants as Choice
 use Rattle.choice.specs.Choice.{selection}
 use Rattle.lending.specs.Answers.{Answer, refusal, value, onJob, behind, Said, answered, refusalSaid}
 use Rattle.lending.specs.Tests.{groupsTest, goalsTest}
@@ -34,6 +36,11 @@ chooseIn job groups goals floor =
 -- on a file
 abbrev pub chooseOf : List ℕ → List ℕ → List ℕ → ℕ → Answer Chosen
 chooseOf file groups goals floor = onJob (readJob choices file) (λ job. chooseIn job groups goals floor)
+
+-- what the search answers, in the words of the rules
+abbrev pub searched : Choice → Answer Chosen
+searched (Choice.Chosen x aside) = value (record { selection = x; aside = aside })
+searched Choice.Nothing = refusal NoSelection 0
 
 -- what the code's answer says
 abbrev pub choiceTold : ChoiceAnswer → Said Chosen

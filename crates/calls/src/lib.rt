@@ -10,7 +10,8 @@ ghost use Rattle.matching.specs.Names.{placeOf};
 ghost use Rattle.lending.specs.Answers.{found, said};
 ghost use Rattle.calls.specs.Partition.{partitionOf, partitionTold};
 ghost use Rattle.calls.specs.Pass.{passOf, passTold};
-ghost use Rattle.calls.specs.Choose.{chooseOf, choiceTold};
+ghost use Rattle.calls.specs.Choose.{chooseOf, searched, choiceTold};
+ghost use Rattle.calls.specs.Offer.{offerOf};
 ghost use Rattle.calls.specs.Layers.{factLayerOf, factsTold, roundLayerOf, verticesTold};
 ghost use Rattle.calls.specs.Plan.{planOf, planTold, Buffer};
 ghost use Rattle.calls.specs.Name.{nameOf};
@@ -88,6 +89,18 @@ pub enum ChoiceAnswer {
     Refused(Refusal),
 }
 
+// What the search found, or 14.
+fn searched(chosen: Choice) -> ChoiceAnswer
+    ensures { λ r. ⌜ choiceTold r ≡ said (searched chosen) ⌝ }
+{
+    match chosen {
+        Choice::Chosen(x, aside) => {
+            ChoiceAnswer::Chosen(ArticleSet { bits: x }, ArticleSet { bits: aside })
+        }
+        Choice::Nothing => ChoiceAnswer::Refused(lending::refusal_at(Reason::NoSelection, 0)),
+    }
+}
+
 // The smallest selection at or above the floor, with the articles that the filter set aside: by the
 // groups lent, with a pass for each goal in turn.
 pub fn choose(file: &[u8], groups: &[u8], goals: &[u64], floor: u64) -> ChoiceAnswer
@@ -117,12 +130,21 @@ pub fn choose(file: &[u8], groups: &[u8], goals: &[u64], floor: u64) -> ChoiceAn
         read.order,
         floor,
     );
-    match chosen {
-        Choice::Chosen(x, aside) => {
-            ChoiceAnswer::Chosen(ArticleSet { bits: x }, ArticleSet { bits: aside })
-        }
-        Choice::Nothing => ChoiceAnswer::Refused(lending::refusal_at(Reason::NoSelection, 0)),
+    searched(chosen)
+}
+
+// The choice that the program makes on a file: by our own partition, with the whole order as the only
+// goal, and no floor. It is no call of the rules; `kitchen` makes it.
+pub fn offer(file: &[u8]) -> ChoiceAnswer
+    ensures { λ r. ⌜ choiceTold r ≡ said (offerOf (now (file .entry))) ⌝ }
+{
+    let read = jobfile::read_choice(file);
+    let verdict = read.verdict;
+    if let Verdict::Refused(refusal) = verdict {
+        return ChoiceAnswer::Refused(refusal);
     }
+    let chosen = choice::offer(read, read.order);
+    searched(chosen)
 }
 
 // ---- fitting files

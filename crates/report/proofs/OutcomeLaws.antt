@@ -1,5 +1,5 @@
--- What comes of a file, by its first byte: what the program lends itself passes the tests of the rules, no plan has more rounds than there
--- are words for them, and a file of no kind is refused for its first byte. Assumes nothing.
+-- What comes of a file, by its first byte: no plan has more rounds than there are words for them, and a file of no kind is refused for its first
+-- byte. Assumes nothing.
 use mathlib.Core.Path.{_≡_, refl, sym, ap, ap₂, _∙_, subst}
 use mathlib.Core.Logic.{_⊎_, inl, inr}
 use mathlib.Core.Bool.{Bool, true, false, cond, not, _||_}
@@ -43,55 +43,6 @@ use Rattle.calls.specs.Plan.{planIn, planOf, planTold, Buffer}
 use Rattle.calls.proofs.CallLaws.{choice-down, job-down, on-job, ChoiceRead}
 use Rattle.calls.proofs.ChoiceLaws.{told, told-is}
 use Rattle.report.specs.Outcome.{Result, selected, planned, mapped, offerIn, offerOf, room, RoundWords, outcomeOf, Within}
-
--- ---- what the program lends itself passes the tests
-
--- 10 and 11: our own groups are as many as there are articles, and a partition
-groups-passed : (N : Network) → groupsTest N (groupsTo N (N .articles)) ≡ passed
-unfolding groupOf
-groups-passed N =
-    ap₂ (λ (short : Bool) (place : Option ℕ). unless short ShortBuffer (unlessAt place FalsePartition passed))
-    (le-ltb (length (groupsTo N (N .articles))) (N .articles) (omega (arith, groups-length N (N .articles))))
-    (right-lent N (λ u. getD (groupsTo N (N .articles)) u 0) (groups-right N))
-
--- 13: the whole order, if it is not empty, is in order as a goal
-goal-passed : (wanted : ℕ) → goalsTest wanted (soleGoal wanted) ≡ passed
-unfolding firstBad firstFrom badGoal
-goal-passed wanted = go (eqb wanted 0) refl
-  where
-    go : (empty : Bool) → eqb wanted 0 ≡ empty → goalsTest wanted (elim empty as (λ t. List ℕ) [ true ↦ [] | false ↦ wanted ∷ [] ]) ≡ passed
-    go true e = refl
-    go false e =
-        ap (λ (place : Option ℕ). unlessAt place BadGoal passed)
-        (first-miss (λ i. badGoal wanted (getD (wanted ∷ []) i 0)) 0 0 (ap₂ (λ (a b : Bool). a || not b) e (part-yes wanted wanted (part-refl wanted))))
-
--- over a network and an order: the choice by our own partition and goal
-abbrev offerOver : Network → ℕ → Answer Chosen
-offerOver N wanted =
-    behind (groupsTest N (groupsTo N (N .articles)))
-    (behind (goalsTest wanted (soleGoal wanted))
-    (chosenOr (selection N wanted 0) (setAside N (λ u. getD (groupsTo N (N .articles)) u 0) (soleGoal wanted))))
-
--- neither is turned down
-own-passed : (N : Network) (wanted : ℕ) → chosenOr (selection N wanted 0) (setAside N (groupOf N) (soleGoal wanted)) ≡ offerOver N wanted
-unfolding groupOf
-own-passed N wanted =
-    let answer = chosenOr (selection N wanted 0) (setAside N (groupOf N) (soleGoal wanted)) in
-    sym (ap₂ (λ (a b : Answer (Unit {0})). behind a (behind b answer)) (groups-passed N) (goal-passed wanted))
-
--- ---- a choice file
-
-module _ (f : List ℕ) where
-  pub offer-down : {v : Verdict} {x : Refusal} → v ≡ choiceOf (read spots choices f) .verdict → v ≡ Verdict.Refused x → refusal (x .reason) (x .place) ≡ mapped selected (offerOf f)
-  offer-down p q = ap (mapped selected) (job-down (λ job. offerIn job) (choice-down f p q))
-
-  pub offer-made : (r : ReadChoice) → ChoiceRead f r → {c d : Choice} → c ≡ offered (networkIn r) (r .order) → c ≡ d → mapped selected (told d) ≡ mapped selected (offerOf f)
-  offer-made r R p k =
-      let N = networkIn r in
-      ap (mapped selected) (
-      ap told (sym k ∙ p) ∙ told-is (selection N (r .order) 0) (setAside N (groupOf N) (soleGoal (r .order))) ∙ own-passed N (r .order)
-      ∙ ap₂ offerOver (R .network) (R .wanted) ∙ on-job (λ job. offerIn job) (R .is)
-      )
 
 -- ---- a file of another kind is refused at its first byte, as the empty file is
 

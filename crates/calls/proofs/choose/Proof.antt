@@ -2,7 +2,6 @@
 use borrow.Author.Needs.{needs}
 use mathlib.Core.Path.{ap, _∙_}
 use denote.Ref.{now}
-use Rattle.lending.specs.Answers.{refusalSaid}
 use Rattle.calls.proofs.CallLaws.{choice-read}
 use Rattle.calls.proofs.ChoiceLaws.{choose-down, choose-groups, choose-goals, choose-may, choose-made}
 use Rattle.calls.proofs.choose.Statement.{statement}
@@ -62,29 +61,16 @@ choose-requires c κs =
     let (room, right, within) = choose-may (now (a .file)) (now (a .groups)) (now (a .goals)) (a .floor) (r .result) R (c .before .before .before .before .before .before .before .before .before .groups .ensures) (c .before .before .before .before .before .before .before .enum-told2 .given .1) (c .before .before .before .before .before .before .goals .ensures) (c .before .before .before .before .enum-told3 .given .1) in
     (r .ensures .1 .0, room, right, within)
 
-enum-known-chosen : tie.Need-enum-known-chosen
-enum-known-chosen c = search needs
-
-enum-told-4 : tie.Need-enum-told-4
-enum-told-4 c = search needs
-
-refusal-at-requires : tie.Need-refusal-at-requires
-refusal-at-requires c κs = search needs
+searched-requires : tie.Need-searched-requires
+searched-requires c κs = search needs
 
 returns-4 : tie.Need-returns-4
 returns-4 c =
-    let a = c .before .before .before .before .before .before .before .before .before .before .before .before .before .before .before .before .before .before .before .before .args in
-    let r = c .before .before .before .before .before .before .before .before .before .before .before .before .before .before .before .before .read-choice in
-    let R = choice-read (now (a .file)) (r .result) (r .ensures .0) (r .ensures .1) (c .before .before .before .before .before .before .before .before .before .before .before .before .before .before .enum-told .given .1) in
-    choose-made (now (a .file)) (now (a .groups)) (now (a .goals)) (a .floor) (r .result) R (c .before .before .before .before .before .before .before .before .before .before .before .before .before .groups .ensures) (c .before .before .before .before .before .before .before .before .before .before .before .enum-told2 .given .1) (c .before .before .before .before .before .before .before .before .before .before .goals .ensures) (c .before .before .before .before .before .before .before .before .enum-told3 .given .1) (c .before .before .before .choose .ensures) (c .before .chosen .given .1)
-
-returns-5 : tie.Need-returns-5
-returns-5 c =
-    let a = c .before .before .before .before .before .before .before .before .before .before .before .before .before .before .before .before .before .before .before .before .args in
-    let r = c .before .before .before .before .before .before .before .before .before .before .before .before .before .before .before .before .read-choice in
-    let R = choice-read (now (a .file)) (r .result) (r .ensures .0) (r .ensures .1) (c .before .before .before .before .before .before .before .before .before .before .before .before .before .before .enum-told .given .1) in
-    ap refusalSaid (c .refusal-at .ensures)
-    ∙ choose-made (now (a .file)) (now (a .groups)) (now (a .goals)) (a .floor) (r .result) R (c .before .before .before .before .before .before .before .before .before .before .before .before .before .groups .ensures) (c .before .before .before .before .before .before .before .before .before .before .before .enum-told2 .given .1) (c .before .before .before .before .before .before .before .before .before .before .goals .ensures) (c .before .before .before .before .before .before .before .before .enum-told3 .given .1) (c .before .before .before .choose .ensures) (c .before .enum-told4 .given .1)
+    let a = c .before .before .before .before .before .before .before .before .before .before .before .before .before .before .before .before .before .before .args in
+    let r = c .before .before .before .before .before .before .before .before .before .before .before .before .before .before .read-choice in
+    let R = choice-read (now (a .file)) (r .result) (r .ensures .0) (r .ensures .1) (c .before .before .before .before .before .before .before .before .before .before .before .before .enum-told .given .1) in
+    c .searched .ensures
+    ∙ choose-made (now (a .file)) (now (a .groups)) (now (a .goals)) (a .floor) (r .result) R (c .before .before .before .before .before .before .before .before .before .before .before .groups .ensures) (c .before .before .before .before .before .before .before .before .before .enum-told2 .given .1) (c .before .before .before .before .before .before .before .before .goals .ensures) (c .before .before .before .before .before .before .enum-told3 .given .1) (c .before .choose .ensures)
 
 pub choose-spec : {M : Type 1} → statement M
 choose-spec =
@@ -103,8 +89,5 @@ choose-spec =
     returns-3
     enum-told-3
     choose-requires
-    enum-known-chosen
-    enum-told-4
-    refusal-at-requires
-    returns-4
-    returns-5)
+    searched-requires
+    returns-4)

@@ -32,17 +32,17 @@ use Rattle.graph.specs.Layers.{factLayer, roundLayer}
 use Rattle.graph.proofs.PlanLaws.{fewest-none, none-fewest}
 use Rattle.layering.proofs.LayerCode.{facts-length, rounds-length}
 use Rattle.lending.specs.Answers.{Answer, refusal, value, onJob, Said, refusedBy, answered, said, accepted}
 use Rattle.calls.specs.Partition.{partitionIn, partitionOf}
 use Rattle.calls.specs.Pass.{passIn, passOf}
 use Rattle.calls.specs.Choose.{chosenOr, chooseIn, chooseOf}
 use Rattle.calls.specs.Layers.{factLayerIn, factLayerOf, roundLayerIn, roundLayerOf}
 use Rattle.calls.specs.Plan.{planIn, planOf, WordsIn, Buffer}
 use Rattle.calls.specs.Name.{nameOf}
 use Rattle.calls.specs.Find.{findIn, findOf}
 use Rattle.calls.specs.Compare.{compareOf}
-use Rattle.calls.specs.Demands.{Exactly, Refuses, Says, Off, Wrong, absentLayer, shortBuffer, falsePartition, absentArticle, wrongGoal, wrongGoals, Has, Alike, ChoiceKept, PlanKept}
-use Rattle.calls.proofs.ReasonLaws.{file-reason}
-use Rattle.calls.proofs.DemandLaws.{exactly-then, tests-end, accepted-exactly, both-pass, room-checks, layer-checks, groups-checks, pass-checks, goals-checks, file-exactly, file-tests, file-taken, file-only, left-exactly, left-taken, left-kept, left-value, either-known, kind-taken, name-past, chosen-taken, chosen-none, choice-is, choice-kept, found-taken, found-none, found-some, lowest-exactly, alike-exactly, plan-is, plan-kept}
+use Rattle.demands.specs.Demands.{Exactly, Refuses, Says, Off, Wrong, absentLayer, shortBuffer, falsePartition, absentArticle, wrongGoal, wrongGoals, Has, Alike, ChoiceKept, PlanKept}
+use Rattle.demands.proofs.ReasonLaws.{file-reason}
+use Rattle.demands.proofs.DemandLaws.{exactly-then, tests-end, accepted-exactly, both-pass, room-checks, layer-checks, groups-checks, pass-checks, goals-checks, file-exactly, file-tests, file-taken, file-only, left-exactly, left-taken, left-kept, left-value, either-known, kind-taken, name-past, chosen-taken, chosen-none, choice-is, choice-kept, found-taken, found-none, found-some, lowest-exactly, alike-exactly, plan-is, plan-kept}
 
 -- ---- demand 1
 

@@ -45,10 +45,10 @@ use Rattle.graph.specs.Rounds.{fittingOf, fewest}
 use Rattle.graph.proofs.PlanLaws.{fewest-none, fewest-some}
 use Rattle.lending.specs.Answers.{Answer, refusal, value, onJob, unless, unlessAt, passed, behind, found, Said, refusedBy, answered, said, accepted, leaving}
 use Rattle.lending.specs.Tests.{roomTest, layerTest, groupsTest, passTest, goalsTest}
-use Rattle.calls.specs.Demands.{Exactly, Refuses, Says, Fault, FirstOf, Off, Wrong, absentLayer, shortBuffer, Misplaced, falsePartition, absentArticle, Bad, wrongGoal, wrongGoals, Has, Alike, ChoiceKept, PlanKept}
+use Rattle.demands.specs.Demands.{Exactly, Refuses, Says, Fault, FirstOf, Off, Wrong, absentLayer, shortBuffer, Misplaced, falsePartition, absentArticle, Bad, wrongGoal, wrongGoals, Has, Alike, ChoiceKept, PlanKept}
 use Rattle.calls.specs.Choose.{Chosen, chosenOr, chooseIn}
 use Rattle.calls.specs.Plan.{planIn, WordsIn}
-use Rattle.calls.proofs.ReasonLaws.{file-no-answer}
+use Rattle.demands.proofs.ReasonLaws.{file-no-answer}
 
 -- ---- one after the other
 

@@ -1,0 +1,25 @@
+-- `calls::searched` meets its contract.
+use borrow.Author.Needs.{needs}
+use mathlib.Core.Path.{ap, sym, _∙_}
+use Rattle.lending.specs.Answers.{said, refusalSaid}
+use Rattle.calls.specs.Choose.{searched}
+use Rattle.calls.proofs.searched.Statement.{statement}
+use Rattle.calls.proofs.searched.Tie as tie
+
+enum-known-chosen : tie.Need-enum-known-chosen
+enum-known-chosen c = search needs
+
+enum-told : tie.Need-enum-told
+enum-told c = search needs
+
+refusal-at-requires : tie.Need-refusal-at-requires
+refusal-at-requires c κs = search needs
+
+returns : tie.Need-returns
+returns c = sym (ap (λ s. said (searched s)) (c .before .chosen .given .1))
+
+returns-2 : tie.Need-returns-2
+returns-2 c = ap refusalSaid (c .refusal-at .ensures) ∙ sym (ap (λ s. said (searched s)) (c .before .enum-told .given .1))
+
+pub searched-spec : {M : Type 1} → statement M
+searched-spec = tie.close (tie.spec enum-known-chosen enum-told refusal-at-requires returns returns-2)

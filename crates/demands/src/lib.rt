@@ -1,0 +1,1 @@
+// The user's demands on the open calls: definitions and theorems, no code.
