@@ -3,8 +3,7 @@ use mathlib.Core.Bool.{Bool, true, false}
 use mathlib.Core.List.{List, [], _∷_}
 use Prim.Native.Nat.{ℕ}
 use Rattle.reading.specs.declared.Spot.{Spot}
-use Rattle.reading.specs.Reasons.{numberOf}
-use Rattle.lending.specs.Answers.{Answer, refusal, value}
+use Rattle.lending.specs.Answers.{Said, refusedBy, answered}
 use Rattle.calls.specs.Choose.{Chosen}
 
 pub record Returned : Type 0 where
@@ -12,9 +11,9 @@ pub record Returned : Type 0 where
   pub words : List ℕ
 
 -- the words of a refusal are its place and 0, those of a value are given
-abbrev pub returned : {A : Type 0} → (A → List ℕ) → Answer A → Returned
-returned words (refusal reason place) = record { status = numberOf reason; words = place ∷ 0 ∷ [] }
-returned words (value x) = record { status = 0; words = words x }
+abbrev pub returned : {A : Type 0} → (A → List ℕ) → Said A → Returned
+returned words (refusedBy number place) = record { status = number; words = place ∷ 0 ∷ [] }
+returned words (answered x) = record { status = 0; words = words x }
 
 -- the words of each sort of value; unused words are 0
 abbrev pub nothing : Unit {0} → List ℕ

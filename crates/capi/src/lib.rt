@@ -7,6 +7,7 @@ ghost use Rattle.reading.specs.Items.{spots};
 ghost use Rattle.reading.specs.Reasons.{numberOf};
 ghost use Rattle.jobfile.specs.Read.{read, readJob, fittings, either};
 ghost use Rattle.jobfile.specs.Answers.{spotIn};
+ghost use Rattle.lending.specs.Answers.{said};
 ghost use Rattle.calls.specs.Partition.{partitionOf};
 ghost use Rattle.calls.specs.Pass.{passOf};
 ghost use Rattle.calls.specs.Choose.{chooseOf};
@@ -69,7 +70,7 @@ pub extern "C" fn kitchen_pass(
     goal: u64,
     out: &mut [u64; 2],
 ) -> u32
-    ensures { λ r. ⌜ record { status = r; words = now (out .exit) } ≡ returned alone (passOf (now (file .entry)) (now (groups .entry)) live goal) ⌝ }
+    ensures { λ r. ⌜ record { status = r; words = now (out .exit) } ≡ returned alone (said (passOf (now (file .entry)) (now (groups .entry)) live goal)) ⌝ }
 {
     let answer = calls::pass(file, groups, ArticleSet { bits: live }, goal);
     match answer {
@@ -86,7 +87,7 @@ pub extern "C" fn kitchen_choose(
     floor: u64,
     out: &mut [u64; 2],
 ) -> u32
-    ensures { λ r. ⌜ record { status = r; words = now (out .exit) } ≡ returned both (chooseOf (now (file .entry)) (now (groups .entry)) (now (goals .entry)) floor) ⌝ }
+    ensures { λ r. ⌜ record { status = r; words = now (out .exit) } ≡ returned both (said (chooseOf (now (file .entry)) (now (groups .entry)) (now (goals .entry)) floor)) ⌝ }
 {
     let answer = calls::choose(file, groups, goals, floor);
     match answer {
@@ -133,7 +134,7 @@ pub extern "C" fn kitchen_round_layer(
 
 #[no_mangle]
 pub extern "C" fn kitchen_plan(file: &[u8], rounds: &mut [u32], out: &mut [u64; 2]) -> u32
-    ensures { λ r. ⌜ record { status = r; words = now (out .exit) } ≡ returned alone (planOf (now (file .entry)) (now (rounds .entry))) ⌝ }
+    ensures { λ r. ⌜ record { status = r; words = now (out .exit) } ≡ returned alone (said (planOf (now (file .entry)) (now (rounds .entry)))) ⌝ }
     ensures { λ r. ⌜ Buffer (readJob fittings (now (file .entry))) (now (rounds .entry)) (now (rounds .exit)) (planOf (now (file .entry)) (now (rounds .entry))) ⌝ }
 {
     let answer = calls::plan(file, rounds);
@@ -156,7 +157,7 @@ pub extern "C" fn kitchen_name(file: &[u8], number: u64, out: &mut [u64; 2]) -> 
 
 #[no_mangle]
 pub extern "C" fn kitchen_find(file: &[u8], name: &[u8], out: &mut [u64; 2]) -> u32
-    ensures { λ r. ⌜ record { status = r; words = now (out .exit) } ≡ returned alone (findOf (now (file .entry)) (now (name .entry))) ⌝ }
+    ensures { λ r. ⌜ record { status = r; words = now (out .exit) } ≡ returned alone (said (findOf (now (file .entry)) (now (name .entry)))) ⌝ }
 {
     let answer = calls::find(file, name);
     match answer {
@@ -167,7 +168,7 @@ pub extern "C" fn kitchen_find(file: &[u8], name: &[u8], out: &mut [u64; 2]) -> 
 
 #[no_mangle]
 pub extern "C" fn kitchen_compare(first: &[u8], second: &[u8], out: &mut [u64; 2]) -> u32
-    ensures { λ r. ⌜ record { status = r; words = now (out .exit) } ≡ returned test (compareOf (now (first .entry)) (now (second .entry))) ⌝ }
+    ensures { λ r. ⌜ record { status = r; words = now (out .exit) } ≡ returned test (said (compareOf (now (first .entry)) (now (second .entry)))) ⌝ }
 {
     let answer = calls::compare(first, second);
     match answer {

@@ -1,11 +1,11 @@
 // What the program does with a file, and the text that it prints.
 ghost use mathlib.Core.Path.{_≡_};
 ghost use Rattle.text.specs.Pages.{shown};
-ghost use Rattle.report.specs.Outcome.{selected, mapped, offerOf, room, RoundWords, outcomeOf, Within, textOf, Prints, outcomeTold};
+ghost use Rattle.lending.specs.Answers.{said};
+ghost use Rattle.calls.specs.Offer.{offerOf};
+ghost use Rattle.report.specs.Outcome.{selected, mapped, RoundWords, outcomeOf, Within, textOf, Prints, outcomeTold};
+use calls::ChoiceAnswer;
 use calls::PlanAnswer;
-use choice::Choice;
-use jobfile::Verdict;
-use reading::Reason;
 use reading::Refusal;
 use sets::ArticleSet;
 use text::Page;
@@ -18,31 +18,23 @@ pub enum OutcomeAnswer {
 }
 
 // What comes of a choice file.
-fn offer(file: &[u8]) -> OutcomeAnswer
-    ensures { λ r. ⌜ outcomeTold r ≡ mapped selected (offerOf (now (file .entry))) ⌝ }
+fn chosen(file: &[u8]) -> OutcomeAnswer
+    ensures { λ r. ⌜ outcomeTold r ≡ mapped selected (said (offerOf (now (file .entry)))) ⌝ }
 {
-    let read = jobfile::read_choice(file);
-    let verdict = read.verdict;
-    if let Verdict::Refused(refusal) = verdict {
-        return OutcomeAnswer::Refused(refusal);
-    }
-    let chosen = choice::offer(read, read.order);
-    match chosen {
-        Choice::Chosen(x, aside) => {
-            OutcomeAnswer::Chosen(ArticleSet { bits: x }, ArticleSet { bits: aside })
-        }
-        Choice::Nothing => OutcomeAnswer::Refused(lending::refusal_at(Reason::NoSelection, 0)),
+    let answer = calls::offer(file);
+    match answer {
+        ChoiceAnswer::Chosen(x, aside) => OutcomeAnswer::Chosen(x, aside),
+        ChoiceAnswer::Refused(refusal) => OutcomeAnswer::Refused(refusal),
     }
 }
 
-// What comes of a file, and the rounds of a plan in the words.
+// What comes of a file, and the rounds of a plan in the words, whatever stood there.
 pub fn outcome(file: &[u8], words: &mut [u32; 16]) -> OutcomeAnswer
-    requires { ⌜ now words ≡ room ⌝ }
-    ensures { λ r. ⌜ outcomeTold r ≡ outcomeOf (now (file .entry)) ⌝ }
-    ensures { λ r. ⌜ RoundWords (now (file .entry)) (now (words .exit)) ⌝ }
+    ensures { λ r. ⌜ outcomeTold r ≡ outcomeOf (now (file .entry)) (now (words .entry)) ⌝ }
+    ensures { λ r. ⌜ RoundWords (now (file .entry)) (now (words .entry)) (now (words .exit)) ⌝ }
 {
     if !jobfile::is_fitting(file) {
-        return offer(file);
+        return chosen(file);
     }
     let answer = calls::plan(file, words);
     match answer {
