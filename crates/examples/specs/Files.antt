@@ -1,4 +1,4 @@
--- The files of the examples, byte by byte, by the letters of docs/RULES.md. Multi-byte fields have their lowest byte first; no record has a name.
+-- The files of the examples, byte by byte, by the letters of docs/RULES.md. Multi-byte fields have their lowest byte first.
 use mathlib.Core.List.{List, [], _∷_, _++_}
 use Prim.Native.Nat.{ℕ}
 use lib.ListN.{take, set}
@@ -42,6 +42,17 @@ fileEmpty =
 abbrev pub fileMany : List ℕ
 fileMany = set fileEmpty 1 65
 
+-- three articles, no wish, and nothing ordered; articles 1 and 2 have the name of one byte, 97. By lines: kind, articles, wishes; order; then the
+-- records, each its bit map and, where it is marked, the length and the byte of its name
+abbrev pub fileNamed : List ℕ
+fileNamed =
+    67 ∷ 3 ∷ 0
+    ∷ 0 ∷ 0 ∷ 0 ∷ 0 ∷ 0 ∷ 0 ∷ 0 ∷ 0
+    ∷ 0
+    ∷ 4 ∷ 1 ∷ 97
+    ∷ 4 ∷ 1 ∷ 97
+    ∷ []
+
 -- F: step 0 needs 0, gives 1 and takes 0; steps 1 and 2 need 1 and give 2 and 3; the start is {0}, the goal {2, 3}. By lines: kind, steps, facts,
 -- horizon; start; goal; then the records, each its bit map, and as it marks them needs, gives and takes: 43 bytes
 abbrev pub fileF : List ℕ
@@ -66,4 +77,13 @@ fileG =
     ∷ 3 ∷ 0 ∷ 0 ∷ 0
     ∷ 2 ∷ 1 ∷ 0 ∷ 0 ∷ 0
     ∷ 6 ∷ 2 ∷ 0 ∷ 0 ∷ 0 ∷ 1 ∷ 0 ∷ 0 ∷ 0
+    ∷ []
+
+-- a step that needs 0, gives 0 and 1 and takes 0; the start is {0}, the goal {0, 1}, the horizon 1. The lines are those of F
+abbrev pub fileBack : List ℕ
+fileBack =
+    70 ∷ 1 ∷ 2 ∷ 1
+    ∷ 1 ∷ 0 ∷ 0 ∷ 0
+    ∷ 3 ∷ 0 ∷ 0 ∷ 0
+    ∷ 7 ∷ 1 ∷ 0 ∷ 0 ∷ 0 ∷ 3 ∷ 0 ∷ 0 ∷ 0 ∷ 1 ∷ 0 ∷ 0 ∷ 0
     ∷ []

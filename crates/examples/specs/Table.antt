@@ -1,56 +1,70 @@
--- The one table of the examples that docs/RULES.md marks with a star, and of some others: what the open calls answer, from the bytes of the files.
+-- The one table of the examples that docs/RULES.md marks with a star, and of others: what the open calls answer, from the bytes of the files, by the
+-- numbers of the rules. A must-fail edit names the row that states what is right where its wrong program answers otherwise.
 use mathlib.Core.Path.{_≡_}
+use mathlib.Core.Bool.{Bool, true, false}
 use mathlib.Core.List.{List, [], _∷_, _++_}
 use Prim.Native.Nat.{ℕ, _+_, _*_, _/_, _%_, _^_}
-use lib.ListN.{length, replicate}
+use lib.ListN.{length, replicate, set}
 use Rattle.sets.specs.Sets.{setOf}
-use Rattle.reading.specs.declared.Reason.the-variants.{ShortBuffer}
-use Rattle.reading.specs.Reasons.{numberOf}
+use Rattle.reading.specs.Reasons.{answers}
+use Rattle.reading.specs.Items.{spots}
 use Rattle.jobfile.specs.Job.{Job, size}
-use Rattle.jobfile.specs.Read.{readJob, fittings}
+use Rattle.jobfile.specs.Read.{read, readJob, fittings, either}
+use Rattle.jobfile.specs.Answers.{spotIn}
 use Rattle.graph.specs.Rounds.{fittingOf, isPlan}
-use Rattle.lending.specs.Answers.{Answer, refusal, value, onJob, Left}
+use Rattle.lending.specs.Answers.{Answer, value, onJob, Said, refusedBy, answered, said, Left}
 use Rattle.calls.specs.Partition.{partitionOf}
 use Rattle.calls.specs.Pass.{passOf}
 use Rattle.calls.specs.Choose.{Chosen, chooseOf}
-use Rattle.calls.specs.Layers.{factLayerOf}
+use Rattle.calls.specs.Offer.{offerOf}
+use Rattle.calls.specs.Layers.{factLayerOf, roundLayerOf}
 use Rattle.calls.specs.Plan.{planOf}
-use Rattle.examples.specs.Files.{fileA, fileShort, fileLong, fileB, fileEmpty, fileMany, fileF, fileNear, fileG}
+use Rattle.calls.specs.Name.{nameOf}
+use Rattle.calls.specs.Find.{findOf}
+use Rattle.calls.specs.Compare.{compareOf}
+use Rattle.capi.specs.Returned.{Returned, returned, nothing, alone, both, test, spotted}
+use Rattle.capi.specs.Version.{interfaceNumber}
+use Rattle.report.specs.Outcome.{outcomeOf, room, textOf}
+use Rattle.examples.specs.Files.{fileA, fileShort, fileLong, fileB, fileEmpty, fileMany, fileNamed, fileF, fileNear, fileG, fileBack}
 
 -- what the definitions give, and what the rules say
 pub record Row : Type 1 where
-  pub Answer : Type 0
-  pub given : Answer
-  pub stated : Answer
+  pub Sort : Type 0
+  pub given : Sort
+  pub stated : Sort
 
 -- every row is as stated
 abbrev pub Hold : List Row → Type 0
 Hold [] = Unit
 Hold (row ∷ rows) = (row .given ≡ row .stated) × Hold rows
 
--- an answer in the words of the rules: the number of the reason and the place, or the value
-pub data Said (A : Type 0) : Type 0 where
-  refused : ℕ → ℕ → Said A
-  answered : A → Said A
+-- a call says this; a call that writes leaves this; a definition is this
+abbrev says : {A : Type 0} → Answer A → Said A → Row
+says {A} call stated = record { Sort = Said A; given = said call; stated = stated }
 
-abbrev pub said : {A : Type 0} → Answer A → Said A
-said (refusal reason place) = refused (numberOf reason) place
-said (value x) = answered x
+abbrev leaves : {A : Type 0} → Left A → Said A → List ℕ → Row
+leaves {A} call answer buffer = record { Sort = Left A; given = call; stated = record { answer = answer; buffer = buffer } }
 
--- so many bytes or words that are lent, each of them 9
+abbrev is : {A : Type 0} → A → A → Row
+is {A} given stated = record { Sort = A; given = given; stated = stated }
+
+-- so many bytes or words that are lent, each of them 9; so many words 0
 abbrev nines : ℕ → List ℕ
 nines n = replicate {A = ℕ} n 9
 
--- what a partition leaves: the buffer afterwards
-abbrev leaves : List ℕ → Left (Unit {0})
-leaves buffer = record { answer = value tt; buffer = buffer }
+abbrev zeros : ℕ → List ℕ
+zeros n = replicate {A = ℕ} n 0
 
--- the choice on a file at a floor, by the groups 0 0 1 and the goal {0, 1}; and a selection as an answer, with what is set aside
+-- the groups 0 0 1, which are a partition of A and of B
+abbrev groups : List ℕ
+groups = 0 ∷ 0 ∷ 1 ∷ []
+
+-- the choice on a file at a floor, by these groups and the goal {0, 1}; and a selection with what is set aside
 abbrev atFloor : List ℕ → ℕ → Answer Chosen
-atFloor file floor = chooseOf file (0 ∷ 0 ∷ 1 ∷ []) (3 ∷ []) floor
+atFloor file floor = chooseOf file groups (3 ∷ []) floor
 
-abbrev chosen : ℕ → ℕ → Answer Chosen
-chosen x aside = value (record { selection = x; aside = aside })
+abbrev chosen : ℕ → ℕ → Said Chosen
+chosen x aside = answered (record { selection = x; aside = aside })
 
 -- the pairs of rounds that are a plan of a fitting: of a job with n steps the pair of a and b is the number a * 2 ^ n + b
 abbrev planPairs : Job (List ℕ) → ℕ
@@ -60,35 +74,131 @@ planPairs job = setOf (2 ^ size job * 2 ^ size job) (λ i. isPlan (fittingOf job
 abbrev planPairsOf : List ℕ → Answer ℕ
 planPairsOf file = onJob (readJob fittings file) (λ job. value (planPairs job))
 
--- what a fact layer leaves of 33 nines: its facts, the words of facts 0 and 1, the words of 30 absent facts, and word 32, which is kept
-abbrev layer : ℕ → ℕ → ℕ → Left ℕ
-layer facts word0 word1 = record { answer = value facts; buffer = word0 ∷ word1 ∷ (replicate {A = ℕ} 30 0 ++ nines 1) }
+-- what a fact layer leaves of 33 nines: the words of facts 0 and 1, of 30 absent facts, and word 32, which is kept
+abbrev factWords : ℕ → ℕ → List ℕ
+factWords word0 word1 = word0 ∷ word1 ∷ (zeros 30 ++ nines 1)
 
--- A: its length and its groups, and that a short buffer keeps; its selections at floors 0, 5, 6, and none at 7; without its last byte, and with one more.
--- B: its groups; the pass with all articles live, for the goals {0, 1, 2} and {0}. The file of nothing: its selection; with 65 articles: refused.
--- F: the fewest rounds of a plan, the plans of two rounds, and no plan within horizon 1. G: the same two, and fact layers 1 and 2: the two facts are
--- mutex in 1, and not in 2
-abbrev pub rows : List Row
-rows =
-    record { Answer = ℕ; given = length fileA; stated = 46 }
-    ∷ record { Answer = Left (Unit {0}); given = partitionOf fileA (nines 4); stated = leaves (0 ∷ 0 ∷ 1 ∷ 9 ∷ []) }
-    ∷ record { Answer = Left (Unit {0}); given = partitionOf fileA (nines 2); stated = record { answer = refusal ShortBuffer 0; buffer = 9 ∷ 9 ∷ [] } }
-    ∷ record { Answer = Answer Chosen; given = atFloor fileA 0; stated = chosen 4 0 }
-    ∷ record { Answer = Answer Chosen; given = atFloor fileA 5; stated = chosen 5 0 }
-    ∷ record { Answer = Answer Chosen; given = atFloor fileA 6; stated = chosen 6 0 }
-    ∷ record { Answer = Said Chosen; given = said (atFloor fileA 7); stated = refused 14 0 }
-    ∷ record { Answer = Said Chosen; given = said (atFloor fileShort 0); stated = refused 2 45 }
-    ∷ record { Answer = Said Chosen; given = said (atFloor fileLong 0); stated = refused 8 46 }
-    ∷ record { Answer = Left (Unit {0}); given = partitionOf fileB (nines 3); stated = leaves (0 ∷ 0 ∷ 1 ∷ []) }
-    ∷ record { Answer = Answer ℕ; given = passOf fileB (0 ∷ 0 ∷ 1 ∷ []) 7 7; stated = value 6 }
-    ∷ record { Answer = Answer ℕ; given = passOf fileB (0 ∷ 0 ∷ 1 ∷ []) 7 1; stated = value 7 }
-    ∷ record { Answer = Answer Chosen; given = chooseOf fileEmpty [] [] 0; stated = chosen 0 0 }
-    ∷ record { Answer = Said Chosen; given = said (chooseOf fileMany [] [] 0); stated = refused 3 1 }
-    ∷ record { Answer = Answer ℕ; given = planOf fileF (nines 3); stated = value 2 }
-    ∷ record { Answer = Answer ℕ; given = planPairsOf fileF; stated = value (2 ^ (1 * 8 + 6)) }
-    ∷ record { Answer = Said ℕ; given = said (planOf fileNear (nines 3)); stated = refused 15 0 }
-    ∷ record { Answer = Said ℕ; given = said (planOf fileG (nines 2)); stated = answered 2 }
-    ∷ record { Answer = Answer ℕ; given = planPairsOf fileG; stated = value (2 ^ (2 * 4 + 1)) }
-    ∷ record { Answer = Left ℕ; given = factLayerOf fileG 1 (nines 33); stated = layer 3 2 1 }
-    ∷ record { Answer = Left ℕ; given = factLayerOf fileG 2 (nines 33); stated = layer 3 0 0 }
+-- what a round layer of G leaves of 65 nines: the words of the keepers of facts 0 and 1, of the steps 0 and 1, which are vertices 32 and 33, of all
+-- absent vertices, and word 64, which is kept
+abbrev roundWords : ℕ → ℕ → ℕ → ℕ → List ℕ
+roundWords keeper0 keeper1 step0 step1 = keeper0 ∷ keeper1 ∷ (zeros 30 ++ (step0 ∷ step1 ∷ (zeros 30 ++ nines 1)))
+
+-- ---- the examples of the rules
+
+-- A: its length and its groups; its selections at floors 0, 5, 6, and none at 7; without its last byte, and with one more
+abbrev rowsA : List Row
+rowsA =
+    is (length fileA) 46
+    ∷ leaves (partitionOf fileA (nines 4)) (answered tt) (0 ∷ 0 ∷ 1 ∷ 9 ∷ [])
+    ∷ says (atFloor fileA 0) (chosen 4 0)
+    ∷ says (atFloor fileA 5) (chosen 5 0)
+    ∷ says (atFloor fileA 6) (chosen 6 0)
+    ∷ says (atFloor fileA 7) (refusedBy 14 0)
+    ∷ says (atFloor fileShort 0) (refusedBy 2 45)
+    ∷ says (atFloor fileLong 0) (refusedBy 8 46)
     ∷ []
+
+-- B: its groups; the pass with all articles live, for the goals {0, 1, 2} and {0}; the program's choice, with article 0 set aside
+abbrev rowsB : List Row
+rowsB =
+    leaves (partitionOf fileB (nines 3)) (answered tt) (0 ∷ 0 ∷ 1 ∷ [])
+    ∷ says (passOf fileB groups 7 7) (answered 6)
+    ∷ says (passOf fileB groups 7 1) (answered 7)
+    ∷ says (offerOf fileB) (chosen 6 1)
+    ∷ []
+
+-- F: the fewest rounds of a plan, the plans of two rounds, and no plan within horizon 1. G: the same two; fact layers 1 and 2: the two facts are mutex
+-- in 1, and not in 2; round layers 1 and 2. A step that gives back what it takes
+abbrev rowsF : List Row
+rowsF =
+    says (planOf fileF (nines 3)) (answered 2)
+    ∷ says (planPairsOf fileF) (answered (2 ^ (1 * 8 + 6)))
+    ∷ says (planOf fileNear (nines 3)) (refusedBy 15 0)
+    ∷ says (planOf fileG (nines 2)) (answered 2)
+    ∷ says (planPairsOf fileG) (answered (2 ^ (2 * 4 + 1)))
+    ∷ leaves (factLayerOf fileG 1 (nines 33)) (answered 3) (factWords 2 1)
+    ∷ leaves (factLayerOf fileG 2 (nines 33)) (answered 3) (factWords 0 0)
+    ∷ leaves (roundLayerOf fileG 1 (nines 65)) (answered (2 ^ 32 + 2 ^ 33)) (roundWords 0 0 (2 ^ 33) (2 ^ 32))
+    ∷ leaves (roundLayerOf fileG 2 (nines 65)) (answered (1 + 2 + 2 ^ 32 + 2 ^ 33)) (roundWords (2 + 2 ^ 33) 1 (2 ^ 33) (1 + 2 ^ 32))
+    ∷ says (planOf fileBack (nines 1)) (answered 1)
+    ∷ []
+
+-- names: there, none, of an absent article, of a refused file; the lowest article with a name. Comparing: alike, unlike, alike though a name differs
+abbrev rowsNames : List Row
+rowsNames =
+    is (nameOf fileNamed 1) (97 ∷ [])
+    ∷ is (nameOf fileNamed 0) []
+    ∷ is (nameOf fileNamed 3) []
+    ∷ is (nameOf (set fileNamed 1 65) 1) []
+    ∷ says (findOf fileNamed (97 ∷ [])) (answered 1)
+    ∷ says (compareOf fileA fileA) (answered true)
+    ∷ says (compareOf fileA fileB) (answered false)
+    ∷ says (compareOf fileNamed (set fileNamed 14 98)) (answered true)
+    ∷ []
+
+-- no article, no wish, nothing ordered: the empty selection. Every number of the rules, 2, 8, 14 and 15 above, at a place of its own where it has one;
+-- what is tested first; a buffer that is short keeps
+abbrev rowsNumbers : List Row
+rowsNumbers =
+    says (chooseOf fileEmpty [] [] 0) (chosen 0 0)
+    ∷ says (chooseOf [] [] [] 0) (refusedBy 1 0)
+    ∷ says (chooseOf fileF [] [] 0) (refusedBy 1 0)
+    ∷ says (chooseOf fileMany [] [] 0) (refusedBy 3 1)
+    ∷ says (offerOf (set fileA 11 9)) (refusedBy 4 11)
+    ∷ says (offerOf (set fileA 12 0)) (refusedBy 5 12)
+    ∷ says (offerOf (set fileNamed 13 0)) (refusedBy 5 13)
+    ∷ says (offerOf (set fileA 3 7)) (refusedBy 6 3)
+    ∷ says (offerOf (set fileNamed 13 33)) (refusedBy 7 13)
+    ∷ leaves (factLayerOf fileG 3 (nines 1)) (refusedBy 9 0) (nines 1)
+    ∷ leaves (roundLayerOf fileG 0 (nines 1)) (refusedBy 9 0) (nines 1)
+    ∷ leaves (partitionOf fileA (nines 2)) (refusedBy 10 0) (9 ∷ 9 ∷ [])
+    ∷ says (planOf fileF (nines 2)) (refusedBy 10 0)
+    ∷ says (passOf fileA (0 ∷ 0 ∷ 3 ∷ []) 8 0) (refusedBy 11 2)
+    ∷ says (passOf fileA (0 ∷ 1 ∷ 1 ∷ []) 7 3) (refusedBy 11 2)
+    ∷ says (passOf fileA groups 8 0) (refusedBy 12 0)
+    ∷ says (passOf fileA groups 7 0) (refusedBy 13 0)
+    ∷ says (chooseOf fileA groups (3 ∷ 4 ∷ []) 0) (refusedBy 13 1)
+    ∷ says (findOf fileNamed (98 ∷ [])) (refusedBy 16 0)
+    ∷ says (findOf fileNamed []) (refusedBy 16 0)
+    ∷ says (compareOf fileShort fileMany) (refusedBy 2 45)
+    ∷ []
+
+-- what each function of the C interface hands back of such answers: a status, and two words; its number
+abbrev handed : ℕ → ℕ → ℕ → Returned
+handed status first second = record { status = status; words = first ∷ second ∷ [] }
+
+abbrev rowsC : List Row
+rowsC =
+    is (returned nothing (partitionOf fileA (nines 4) .answer)) (handed 0 0 0)
+    ∷ is (returned alone (said (passOf fileB groups 7 7))) (handed 0 6 0)
+    ∷ is (returned both (said (chooseOf fileB groups (7 ∷ []) 0))) (handed 0 6 1)
+    ∷ is (returned both (said (atFloor fileShort 0))) (handed 2 45 0)
+    ∷ is (returned alone (factLayerOf fileG 1 (nines 33) .answer)) (handed 0 3 0)
+    ∷ is (returned alone (roundLayerOf fileG 1 (nines 65) .answer)) (handed 0 (2 ^ 32 + 2 ^ 33) 0)
+    ∷ is (returned alone (said (planOf fileF (nines 3)))) (handed 0 2 0)
+    ∷ is (spotted (spotIn (read spots either fileNamed) 1)) (handed 0 14 1)
+    ∷ is (returned alone (said (findOf fileNamed (97 ∷ [])))) (handed 0 1 0)
+    ∷ is (returned test (said (compareOf fileA fileA))) (handed 0 1 0)
+    ∷ is (returned test (said (compareOf fileA fileB))) (handed 0 0 0)
+    ∷ is interfaceNumber 2
+    ∷ []
+
+-- what the program prints, in bytes: "chosen 1 2" and "aside 0" of B; "rounds 2", "1: 0" and "2: 1 2" of F; "refused 2 at 45"
+abbrev rowsText : List Row
+rowsText =
+    is (textOf (outcomeOf fileB room) room) (99 ∷ 104 ∷ 111 ∷ 115 ∷ 101 ∷ 110 ∷ 32 ∷ 49 ∷ 32 ∷ 50 ∷ 10 ∷ 97 ∷ 115 ∷ 105 ∷ 100 ∷ 101 ∷ 32 ∷ 48 ∷ 10 ∷ [])
+    ∷ is (textOf (outcomeOf fileF room) (1 ∷ 6 ∷ [])) (114 ∷ 111 ∷ 117 ∷ 110 ∷ 100 ∷ 115 ∷ 32 ∷ 50 ∷ 10 ∷ 49 ∷ 58 ∷ 32 ∷ 48 ∷ 10 ∷ 50 ∷ 58 ∷ 32 ∷ 49 ∷ 32 ∷ 50 ∷ 10 ∷ [])
+    ∷ is (textOf (outcomeOf fileShort room) room) (114 ∷ 101 ∷ 102 ∷ 117 ∷ 115 ∷ 101 ∷ 100 ∷ 32 ∷ 50 ∷ 32 ∷ 97 ∷ 116 ∷ 32 ∷ 52 ∷ 53 ∷ 10 ∷ [])
+    ∷ []
+
+-- the numbers that are answers to accepted input
+abbrev rowsAnswers : List Row
+rowsAnswers =
+    is (answers 13) false
+    ∷ is (answers 14) true
+    ∷ is (answers 16) true
+    ∷ is (answers 17) false
+    ∷ []
+
+abbrev pub rows : List Row
+rows = rowsA ++ (rowsB ++ (rowsF ++ (rowsNames ++ (rowsNumbers ++ (rowsC ++ (rowsText ++ rowsAnswers))))))
