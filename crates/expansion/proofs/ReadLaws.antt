@@ -129,7 +129,8 @@ module _ {N : Type 0} (names : Naming N) where
       let u = then-got (fieldsAt (layout .before) count number (t .value) 0 f (t .next)) _ (t .second) in
       let v = then-got (optional (member (t .value) (nameBit layout)) (names .absent) (nameAt names (layout .longest)) f (u .next)) _ (u .second) in
       let w = then-got (fieldsAt (layout .after) count number (t .value) (suc (nameBit layout)) f (v .next)) _ (v .second) in
-      subst (λ (x : Record N). Below count (x .before)) (same-value (w .second)) (fields-below (layout .before) o count number (t .value) 0 f (t .next) (u .value) (u .next) (u .first))
+      let made : Record N = record { before = u .value; name = v .value; after = w .value } in
+      subst (λ (x : Record N). Below count (x .before)) {x = made} (same-value {a = made} (w .second)) (fields-below (layout .before) o count number (t .value) 0 f (t .next) (u .value) (u .next) (u .first))
 
   body-kept : (layout : Layout) → Counted (layout .before) → (f : List ℕ) (at : ℕ) (job : Job N) (n : ℕ) → bodyAt names layout f at ≡ got job n → Kept job
   unfolding bodyAt

@@ -63,10 +63,10 @@ job-lawful takes =
     (λ j o. by-written j (layoutOf (j .kind)) (o .1)))
 
 module _ (takes : ℕ → Bool) where
-  -- an accepted file is the writing of its job, and its job is valid
-  pub exact-and-valid : (f : List ℕ) → Bytes f → {job : Job (List ℕ)} {n : ℕ} → readJob takes f ≡ got job n → (f ≡ write job) × Valid job
+  -- an accepted file is the writing of its job, and its job is valid and of a kind that the call takes
+  stands : (f : List ℕ) → Bytes f → {job : Job (List ℕ)} {n : ℕ} → readJob takes f ≡ got job n → (f ≡ write job) × (Valid job × (takes (job .kind) ≡ true))
   unfolding readJob read
-  exact-and-valid f bytes {job} {n} e =
+  stands f bytes {job} {n} e =
       let k = then-got (layoutAt takes f 0) _ e in
       let t = then-got (bodyAt (bytesIn f) (k .value) f (k .next)) _ (k .second) in
       let s = refuse-got (ltb (t .next) (length f)) TrailingBytes (t .next) (got (t .value) (length f)) (t .second) in
@@ -76,17 +76,23 @@ module _ (takes : ℕ → Bool) where
       ap (λ (x : Got Layout). andThen x (λ layout a. bodyAt (bytesIn f) layout f a)) (k .first) ∙ t .first ∙ ap (λ (x : Job (List ℕ)). got x (t .next)) q in
       let r = job-lawful takes .exact f bytes 0 (omega arith) job (t .next) whole in
       let m : t .next ≡ length f = omega (arith, r .within) in
-      (r .written ∙ ap (λ (x : ℕ). write job ++ drop x f) m ∙ ap (λ (x : List ℕ). write job ++ x) (drop-length f) ∙ append-nil (write job), r .valid .0)
+      (r .written ∙ ap (λ (x : ℕ). write job ++ drop x f) m ∙ ap (λ (x : List ℕ). write job ++ x) (drop-length f) ∙ append-nil (write job), r .valid)
 
   pub exact : (f : List ℕ) → Bytes f → {job : Job (List ℕ)} {n : ℕ} → readJob takes f ≡ got job n → f ≡ write job
-  exact f bytes e = exact-and-valid f bytes e .0
+  exact f bytes e = stands f bytes e .0
 
   pub valid : (f : List ℕ) → Bytes f → {job : Job (List ℕ)} {n : ℕ} → readJob takes f ≡ got job n → Valid job
-  valid f bytes e = exact-and-valid f bytes e .1
+  valid f bytes e = stands f bytes e .1 .0
 
-  -- whatever kinds the call takes, a file that is accepted is of a kind that there is
-  pub known-kind : (f : List ℕ) → Bytes f → {job : Job (List ℕ)} {n : ℕ} → readJob takes f ≡ got job n → known (job .kind) ≡ true
-  known-kind f bytes e = ap isThere (valid f bytes e .known)
+  pub exact-and-valid : (f : List ℕ) → Bytes f → {job : Job (List ℕ)} {n : ℕ} → readJob takes f ≡ got job n → (f ≡ write job) × Valid job
+  exact-and-valid f bytes e = (exact f bytes e, valid f bytes e)
+
+  -- its kind is one that the call takes, and, whatever that is, one that there is
+  pub kind-taken : (f : List ℕ) → Bytes f → {job : Job (List ℕ)} {n : ℕ} → readJob takes f ≡ got job n → takes (job .kind) ≡ true
+  kind-taken f bytes e = stands f bytes e .1 .1
+
+  pub kind-known : (f : List ℕ) → Bytes f → {job : Job (List ℕ)} {n : ℕ} → readJob takes f ≡ got job n → known (job .kind) ≡ true
+  kind-known f bytes e = ap isThere (valid f bytes e .known)
 
   -- the writing of a valid job, of a kind that the call takes, is accepted and reads back as that job
   pub read-back : (job : Job (List ℕ)) → Valid job → takes (job .kind) ≡ true → readJob takes (write job) ≡ got job (length (write job))
