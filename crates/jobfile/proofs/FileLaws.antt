@@ -13,7 +13,7 @@ use lib.Pow.{pow-mono}
 use borrow.Author.Tests.{eqb-true}
 use Rattle.reading.specs.Got.{eachAt, upFrom}
 use Rattle.reading.specs.Items.{bytesIn, countAt, setAt}
-use Rattle.jobfile.specs.Layout.{Count, Bound, counted, own, Field, set, amount, Layout, bits, choice, fitting, kinds, layoutIn, layoutOf}
+use Rattle.jobfile.specs.Layout.{Count, Bound, counted, own, Field, set, amount, Layout, bits, choice, fitting, kinds, layoutIn}
 use Rattle.jobfile.specs.Job.{Record, Job}
 use Rattle.jobfile.specs.Read.{below, recordAt, bodyAt}
 use Rattle.jobfile.specs.Write.{bytesOf, writeRecord, writeAll, writeBody}
@@ -34,6 +34,16 @@ pub record Sound (layout : Layout) : Type 0 where
   pub after : All (Roomy (limitAt layout 1) (limitAt layout 0)) (layout .after)
   pub few : 2 ^ bits layout ≤ 256
   pub longest : layout .longest < 256
+
+-- what is found in a list of layouts has the kind that was asked for, and is what all of them are
+pub found : (P : Layout → Type 0) (layouts : List Layout) (kind : ℕ) {layout : Layout} → All P layouts → layoutIn layouts kind ≡ some layout → (layout .kind ≡ kind) × P layout
+unfolding layoutIn
+found P [] kind all e = let z : _≡_ {A = ℕ} 0 1 = cc in absurd (omega arith)
+found P (x ∷ layouts) kind {layout} all e = go (eqb kind (x .kind)) refl e (found P layouts kind {layout = layout} (all .1))
+  where
+    go : (b : Bool) → eqb kind (x .kind) ≡ b → cond b (some x) (layoutIn layouts kind) ≡ some layout → (layoutIn layouts kind ≡ some layout → (layout .kind ≡ kind) × P layout) → (layout .kind ≡ kind) × P layout
+    go true q e rest = let same : x ≡ layout = cc in rw (← same) (sym (eqb-true kind (x .kind) q), all .0)
+    go false q e rest = rest e
 
 -- ---- the kinds that there are
 
@@ -59,22 +69,9 @@ fitting-sound = record {
   longest = lit< tt;
 }
 
-kinds-sound : All Sound kinds
+pub kinds-sound : All Sound kinds
 unfolding kinds
 kinds-sound = (choice-sound, (fitting-sound, tt))
-
--- what is found in a list of layouts has the kind that was asked for, and is what all of them are
-pub found : (P : Layout → Type 0) (layouts : List Layout) (kind : ℕ) {layout : Layout} → All P layouts → layoutIn layouts kind ≡ some layout → (layout .kind ≡ kind) × P layout
-unfolding layoutIn
-found P [] kind all e = let z : _≡_ {A = ℕ} 0 1 = cc in absurd (omega arith)
-found P (x ∷ layouts) kind {layout} all e = go (eqb kind (x .kind)) refl e (found P layouts kind {layout = layout} (all .1))
-  where
-    go : (b : Bool) → eqb kind (x .kind) ≡ b → cond b (some x) (layoutIn layouts kind) ≡ some layout → (layoutIn layouts kind ≡ some layout → (layout .kind ≡ kind) × P layout) → (layout .kind ≡ kind) × P layout
-    go true q e rest = let same : x ≡ layout = cc in rw (← same) (sym (eqb-true kind (x .kind) q), all .0)
-    go false q e rest = rest e
-
-pub kind-found : (kind : ℕ) {layout : Layout} → layoutOf kind ≡ some layout → (layout .kind ≡ kind) × Sound layout
-kind-found kind e = found Sound kinds kind kinds-sound e
 
 -- ---- bounds
 

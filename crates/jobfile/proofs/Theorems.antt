@@ -13,17 +13,18 @@ use Rattle.reading.specs.declared.Reason.the-variants.{WrongKind, TrailingBytes
 use Rattle.reading.specs.Got.{Got, got, andThen}
 use Rattle.reading.specs.Items.{bytesIn, kindAt}
 use Rattle.reading.proofs.StepLaws.{and-assoc}
-use Rattle.jobfile.specs.Layout.{Layout, layoutOf, isThere, known}
+use Rattle.jobfile.specs.Layout.{Layout, kinds, layoutIn, layoutOf, isThere, known}
 use Rattle.jobfile.specs.Job.{Job}
 use Rattle.jobfile.specs.Read.{bodyAt, layoutOr, layoutAt, read, readJob}
 use Rattle.jobfile.specs.Write.{writeBody, writeBy, write}
 use Rattle.jobfile.specs.Valid.{Bytes, Valid}
-use Rattle.jobfile.proofs.Lawful.{Lawful, then-got, refuse-got, same-value, refused-lawful, seq-lawful, restate, reread}
+use Rattle.jobfile.proofs.Lawful.{Lawful, All, then-got, refuse-got, same-value, refused-lawful, seq-lawful, restate, reread}
 use Rattle.jobfile.proofs.ItemLaws.{kind-lawful}
-use Rattle.jobfile.proofs.FileLaws.{Body, body-lawful, kind-found}
+use Rattle.jobfile.proofs.FileLaws.{Sound, kinds-sound, found, Body, body-lawful}
 
--- ---- behind the kind, where it may be one that there is not
+-- ---- for any list of sound layouts
 
+-- what stands behind a kind, where it may be one that there is not
 abbrev BodyBy : Option Layout → Job (List ℕ) → Type 0
 BodyBy none job = ⊥
 BodyBy (some layout) job = Body layout job
@@ -32,35 +33,43 @@ abbrev restBy : Option Layout → Job (List ℕ) → List ℕ
 restBy none job = []
 restBy (some layout) job = writeBody layout job
 
-by-lawful : (kind : ℕ) (l : Option Layout) → layoutOf kind ≡ l → Lawful (λ f at. andThen (layoutOr l at) λ layout a. bodyAt (bytesIn f) layout f a) (restBy l) (BodyBy l)
-by-lawful kind none e = refused-lawful WrongKind 0 (λ job. [])
-by-lawful kind (some layout) e = body-lawful layout (kind-found kind e .1)
+module _ (layouts : List Layout) (sound : All Sound layouts) where
+  by-lawful : (kind : ℕ) (l : Option Layout) → layoutIn layouts kind ≡ l → Lawful (λ f at. andThen (layoutOr l at) λ layout a. bodyAt (bytesIn f) layout f a) (restBy l) (BodyBy l)
+  by-lawful kind none e = refused-lawful WrongKind 0 (λ job. [])
+  by-lawful kind (some layout) e = body-lawful layout (found Sound layouts kind sound e .1)
 
-by-kind : (kind : ℕ) (l : Option Layout) → layoutOf kind ≡ l → (job : Job (List ℕ)) → BodyBy l job → job .kind ≡ kind
-by-kind kind none e job o = absurd o
-by-kind kind (some layout) e job o = o .kind ∙ kind-found kind e .0
+  by-kind : (kind : ℕ) (l : Option Layout) → layoutIn layouts kind ≡ l → (job : Job (List ℕ)) → BodyBy l job → job .kind ≡ kind
+  by-kind kind none e job o = absurd o
+  by-kind kind (some layout) e job o = o .kind ∙ found Sound layouts kind sound e .0
+
+  -- a file of a kind that the call takes, up to its end
+  pub file-lawful : (takes : ℕ → Bool)
+      → Lawful (λ f at. andThen (kindAt takes f at) λ kind a. andThen (layoutOr (layoutIn layouts kind) a) λ layout b. bodyAt (bytesIn f) layout f b)
+      (λ job. job .kind ∷ restBy (layoutIn layouts (job .kind)) job) (λ job. (takes (job .kind) ≡ true) × BodyBy (layoutIn layouts (job .kind)) job)
+  file-lawful takes =
+      seq-lawful (λ job. job .kind) (kind-lawful takes) (λ kind v. by-lawful kind (layoutIn layouts kind) refl) (λ kind job v o. by-kind kind (layoutIn layouts kind) refl job o)
+
+-- ---- for the kinds that there are
 
 by-valid : (job : Job (List ℕ)) (l : Option Layout) → layoutOf (job .kind) ≡ l → BodyBy l job → Valid job
 by-valid job none e o = absurd o
 by-valid job (some layout) e o = record { layout = layout; known = e; counts = o .counts; heads = o .heads; size = o .size; records = o .records }
 
 valid-by : (job : Job (List ℕ)) → Valid job → BodyBy (layoutOf (job .kind)) job
-valid-by job o = rw (o .known) (record { kind = sym (kind-found (job .kind) (o .known) .0); counts = o .counts; heads = o .heads; size = o .size; records = o .records })
+valid-by job o = rw (o .known) (record { kind = sym (found Sound kinds (job .kind) kinds-sound (o .known) .0); counts = o .counts; heads = o .heads; size = o .size; records = o .records })
 
 by-written : (job : Job (List ℕ)) (l : Option Layout) → BodyBy l job → job .kind ∷ restBy l job ≡ writeBy l job
 by-written job none o = absurd o
 by-written job (some layout) o = refl
 
--- what stands in a file of these kinds, up to its end
 pub job-lawful : (takes : ℕ → Bool) → Lawful (λ f at. andThen (layoutAt takes f at) λ layout a. bodyAt (bytesIn f) layout f a) write (λ job. Valid job × (takes (job .kind) ≡ true))
 unfolding write layoutAt
 job-lawful takes =
     reread (λ f at. sym (and-assoc (kindAt takes f at) _ _))
-    (restate
-    (seq-lawful (λ j. j .kind) (kind-lawful takes) (λ kind v. by-lawful kind (layoutOf kind) refl) (λ kind j v o. by-kind kind (layoutOf kind) refl j o))
-    (λ j o. (by-valid j (layoutOf (j .kind)) refl (o .1), o .0))
-    (λ j o. (o .1, valid-by j (o .0)))
-    (λ j o. by-written j (layoutOf (j .kind)) (o .1)))
+    (restate (file-lawful kinds kinds-sound takes)
+    (λ job o. (by-valid job (layoutOf (job .kind)) refl (o .1), o .0))
+    (λ job o. (o .1, valid-by job (o .0)))
+    (λ job o. by-written job (layoutOf (job .kind)) (o .1)))
 
 module _ (takes : ℕ → Bool) where
   -- an accepted file is the writing of its job, and its job is valid and of a kind that the call takes

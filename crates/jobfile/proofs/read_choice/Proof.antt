@@ -1,5 +1,6 @@
 -- `jobfile::read_choice` meets its contract: the items that it reads are those of the definition, one behind the other.
 use borrow.Author.Needs.{needs}
+use native.Mathlib.Omega.{arith}
 use Rattle.jobfile.proofs.ReadLaws.{choice-refused, choice-accepted}
 use Rattle.jobfile.proofs.read_choice.Statement.{statement}
 use Rattle.jobfile.proofs.read_choice.Tie as tie
@@ -17,7 +18,7 @@ set-requires : tie.Need-set-requires
 set-requires c κs = search needs
 
 read-records-requires : tie.Need-read-records-requires
-read-records-requires c κs = search needs
+read-records-requires c κs = omega arith
 
 finish-requires : tie.Need-finish-requires
 finish-requires c κs = search needs

@@ -1,5 +1,6 @@
 -- `jobfile::read_fitting` meets its contract, as `read_choice` does.
 use borrow.Author.Needs.{needs}
+use native.Mathlib.Omega.{arith}
 use Rattle.jobfile.proofs.ReadLaws.{fitting-refused, fitting-accepted}
 use Rattle.jobfile.proofs.read_fitting.Statement.{statement}
 use Rattle.jobfile.proofs.read_fitting.Tie as tie
@@ -23,7 +24,7 @@ set-requires-2 : tie.Need-set-requires-2
 set-requires-2 c κs = search needs
 
 read-records-requires : tie.Need-read-records-requires
-read-records-requires c κs = search needs
+read-records-requires c κs = omega arith
 
 finish-requires : tie.Need-finish-requires
 finish-requires c κs = search needs
