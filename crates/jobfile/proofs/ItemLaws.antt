@@ -1,4 +1,4 @@
--- The laws of the items: numbers, counts, bit maps, sets, names, the kind. Assumes nothing.
+-- The laws of the items: numbers, the kind, counts, bit maps, sets, amounts, names. Assumes nothing.
 use mathlib.Core.Path.{_≡_, refl, ap, sym, _∙_, subst}
 use mathlib.Core.Bool.{Bool, true, false, not}
 use mathlib.Core.List.{List, [], _∷_, _++_}
