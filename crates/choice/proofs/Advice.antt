@@ -17,7 +17,7 @@ use Rattle.sets.specs.First.{Smallest}
 use Rattle.sets.proofs.Ranges.{num-either, false-num, num-false, same-yes, same-no, given-zero, given-yes, given-no}
 use Rattle.sets.proofs.Bits.{bit-le, bit-cases, bit-empty, not-in, bit-one, only-one, in-part, part-in, part-full, member-yes, member-no, member-below, member-differs, full-below, bit-full, bit-without, without-le, without-in, in-without, more-same}
 use Rattle.sets.proofs.Made.{set-bit}
-use Rattle.jobfile.specs.Job.{Entry, Job, column, size, order, wishes}
+use Rattle.jobfile.specs.Job.{Record, Job, column, size, order, wishes}
 use Rattle.network.specs.Network.{Network, networkOf, clash, Selection}
 use Rattle.network.proofs.NetworkLaws.{clash-turned}
 use Rattle.choice.specs.Choice.{Cover, selection}
@@ -152,39 +152,39 @@ module _ (N : Network) (order : ℕ) where
 -- ---- the records of a changed job
 
 -- a record without wishes has no first set, and its second as it was
-first-emptied : {N : Type 0} (b : Bool) (e : Entry N) → getD (cond b (wishless e) e .sets) 0 0 ≡ given (not b) (getD (e .sets) 0 0)
-first-emptied true e = refl
-first-emptied false e = refl
+first-emptied : {N : Type 0} (b : Bool) (r : Record N) → getD (cond b (wishless r) r .before) 0 0 ≡ given (not b) (getD (r .before) 0 0)
+first-emptied true r = refl
+first-emptied false r = refl
 
-second-kept : {N : Type 0} (b : Bool) (e : Entry N) → getD (cond b (wishless e) e .sets) 1 0 ≡ getD (e .sets) 1 0
-second-kept true e = go (e .sets)
+second-kept : {N : Type 0} (b : Bool) (r : Record N) → getD (cond b (wishless r) r .before) 1 0 ≡ getD (r .before) 1 0
+second-kept true r = go (r .before)
   where
     go : (sets : List ℕ) → getD (withFirst 0 sets) 1 0 ≡ getD sets 1 0
     go [] = refl
     go (s ∷ sets) = refl
-second-kept false e = refl
+second-kept false r = refl
 
-wishes-emptied : {N : Type 0} (out i u k : ℕ) (es : List (Entry N)) → k ≡ i + u → getD (column 0 (emptiedFrom out i es)) u 0 ≡ given (not (member out k)) (getD (column 0 es) u 0)
+wishes-emptied : {N : Type 0} (out i u k : ℕ) (rs : List (Record N)) → k ≡ i + u → getD (column 0 (emptiedFrom out i rs)) u 0 ≡ given (not (member out k)) (getD (column 0 rs) u 0)
 unfolding emptiedFrom
 wishes-emptied out i u k [] h = sym (given-zero (not (member out k)))
-wishes-emptied out i zero k (e ∷ es) h =
-    let same : i ≡ k = omega arith in first-emptied (member out i) e ∙ ap (λ (j : ℕ). given (not (member out j)) (getD (e .sets) 0 0)) same
-wishes-emptied out i (suc u) k (e ∷ es) h = wishes-emptied out (suc i) u k es (omega arith)
+wishes-emptied out i zero k (r ∷ rs) h =
+    let same : i ≡ k = omega arith in first-emptied (member out i) r ∙ ap (λ (j : ℕ). given (not (member out j)) (getD (r .before) 0 0)) same
+wishes-emptied out i (suc u) k (r ∷ rs) h = wishes-emptied out (suc i) u k rs (omega arith)
 
-clashes-kept : {N : Type 0} (out i : ℕ) (es : List (Entry N)) → column 1 (emptiedFrom out i es) ≡ column 1 es
+clashes-kept : {N : Type 0} (out i : ℕ) (rs : List (Record N)) → column 1 (emptiedFrom out i rs) ≡ column 1 rs
 unfolding emptiedFrom
 clashes-kept out i [] = refl
-clashes-kept out i (e ∷ es) = ap₂ _∷_ (second-kept (member out i) e) (clashes-kept out (suc i) es)
+clashes-kept out i (r ∷ rs) = ap₂ _∷_ (second-kept (member out i) r) (clashes-kept out (suc i) rs)
 
 -- ---- jobs: what the choice for a changed job tells of the job itself
 
 module _ {N : Type 0} (job : Job N) where
   wishes-changed : (out u : ℕ) → getD (wishes (emptiedJob job out)) u 0 ≡ given (not (member out u)) (getD (wishes job) u 0)
-  wishes-changed out u = wishes-emptied out _ u u (job .entries) (omega arith)
+  wishes-changed out u = wishes-emptied out _ u u (job .records) (omega arith)
 
   -- the network of the job with the wishes of some articles emptied
   pub emptied-network : (out : ℕ) → networkOf (emptiedJob job out) ≡ emptied (networkOf job) out
-  emptied-network out = λ i. record { articles = size job; wishes = λ u. wishes-changed out u i; clashes = λ u. getD (clashes-kept out 0 (job .entries) i) u 0 }
+  emptied-network out = λ i. record { articles = size job; wishes = λ u. wishes-changed out u i; clashes = λ u. getD (clashes-kept out 0 (job .records) i) u 0 }
 
   -- the job with the wishes of some articles emptied has a selection, exactly if the job has one without these articles
   pub some-without : (out : ℕ) → ((y : ℕ) × (smallestOf (emptiedJob job out) ≡ some y)) ↔ ((x : ℕ) × Selection (networkOf job) (order job) x × Apart x out)

@@ -7,7 +7,7 @@ use lib.Dec.{eqb}
 use lib.ListN.{drop}
 use Rattle.sets.specs.Ranges.{given}
 use Rattle.sets.specs.Sets.{_∈_, member, without, setOf}
-use Rattle.jobfile.specs.Job.{Entry, Job, order}
+use Rattle.jobfile.specs.Job.{Record, Job, order}
 use Rattle.network.specs.Network.{Network, networkOf, clash}
 use Rattle.choice.specs.Choice.{selection}
 
@@ -35,22 +35,22 @@ smallestOf job = selection (networkOf job) (order job) 0
 abbrev pub withFirst : ℕ → List ℕ → List ℕ
 withFirst s sets = s ∷ drop 1 sets
 
--- a record without wishes; its clashes and its name stay
-abbrev pub wishless : {N : Type 0} → Entry N → Entry N
-wishless e = record { sets = withFirst 0 (e .sets); name = e .name }
+-- a record without wishes; all else of it stays
+abbrev pub wishless : {N : Type 0} → Record N → Record N
+wishless r = record { before = withFirst 0 (r .before); name = r .name; after = r .after }
 
 -- records from number i on: those whose number is in out are without wishes
-unfoldable pub emptiedFrom : {N : Type 0} → ℕ → ℕ → List (Entry N) → List (Entry N)
+unfoldable pub emptiedFrom : {N : Type 0} → ℕ → ℕ → List (Record N) → List (Record N)
 emptiedFrom out i [] = []
-emptiedFrom out i (e ∷ es) = cond (member out i) (wishless e) e ∷ emptiedFrom out (suc i) es
+emptiedFrom out i (r ∷ rs) = cond (member out i) (wishless r) r ∷ emptiedFrom out (suc i) rs
 
 -- the job with the wishes of the articles of out emptied
 abbrev pub emptiedJob : {N : Type 0} → Job N → ℕ → Job N
-emptiedJob job out = record { kind = job .kind; counts = job .counts; heads = job .heads; entries = emptiedFrom out 0 (job .entries) }
+emptiedJob job out = record { kind = job .kind; counts = job .counts; heads = job .heads; records = emptiedFrom out 0 (job .records) }
 
 -- the job with another order
 abbrev pub ordered : {N : Type 0} → Job N → ℕ → Job N
-ordered job p = record { kind = job .kind; counts = job .counts; heads = withFirst p (job .heads); entries = job .entries }
+ordered job p = record { kind = job .kind; counts = job .counts; heads = withFirst p (job .heads); records = job .records }
 
 -- the job that v leaves: its wishes are not ordered any more, and nothing that it bars carries a wish
 abbrev pub leftBy : {N : Type 0} → Job N → ℕ → Job N

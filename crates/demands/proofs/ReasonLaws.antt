@@ -2,6 +2,7 @@
 use mathlib.Core.Path.{_≡_, ap, subst}
 use mathlib.Core.Bool.{Bool, true, false, not, _&&_}
 use mathlib.Core.List.{List, [], _∷_}
+use mathlib.Core.Option.{Option, none, some}
 use Prim.Native.Nat.{ℕ, suc, _+_, _^_, _≤_}
 use native.Mathlib.Omega.{arith}
 use lib.Dec.{leb, ltb, eqb}
@@ -12,10 +13,10 @@ use Rattle.reading.specs.declared.Reason.{Reason}
 use Rattle.reading.specs.declared.Reason.the-variants.{WrongKind, EndsEarly, OverLimit, ForbiddenBit, EmptyField, AbsentMember, LongName, TrailingBytes}
 use Rattle.reading.specs.Reasons.{numberOf, answers}
 use Rattle.reading.specs.Got.{Got, got, refused, Reader, refuse, andThen, checked, optional, eachAt, upFrom}
-use Rattle.reading.specs.Items.{Naming, bytesIn, kindAt, numberAt, countAt, mapAt, setAt, fieldAt, lengthAt, nameAt}
-use Rattle.jobfile.specs.Layout.{SetField, Layout, layoutOf}
+use Rattle.reading.specs.Items.{Naming, bytesIn, kindAt, numberAt, countAt, mapAt, setAt, amountAt, fieldAt, lengthAt, nameAt}
+use Rattle.jobfile.specs.Layout.{Field, set, amount, Layout, nameBit, bits, layoutOf}
 use Rattle.jobfile.specs.Job.{Job}
-use Rattle.jobfile.specs.Read.{below, setsAt, entryAt, bodyAt, read, readJob}
+use Rattle.jobfile.specs.Read.{below, itemAt, fieldsAt, recordAt, bodyAt, layoutOr, layoutAt, read, readJob}
 
 -- what is read, or a reason of a file
 abbrev Tells : {A : Type 0} → Got A → Type 0
@@ -67,48 +68,61 @@ module _ (f : List ℕ) where
   unfolding setAt
   set-tells bytes limit at = checked-tells (leb (2 ^ limit)) AbsentMember (numberAt bytes) at (omega arith) (number-tells bytes at)
 
-  filled-tells : (bytes at : ℕ) → Tells (checked (λ v. eqb v 0) EmptyField (numberAt bytes) f at)
-  filled-tells bytes at = checked-tells (λ v. eqb v 0) EmptyField (numberAt bytes) at (omega arith) (number-tells bytes at)
+  amount-tells : (bytes at : ℕ) → Tells (amountAt bytes f at)
+  amount-tells bytes at = checked-tells (λ v. eqb v 0) EmptyField (numberAt bytes) at (omega arith) (number-tells bytes at)
 
   field-tells : (bytes limit at : ℕ) → Tells (fieldAt bytes limit f at)
   unfolding fieldAt
-  field-tells bytes limit at = checked-tells (leb (2 ^ limit)) AbsentMember (checked (λ v. eqb v 0) EmptyField (numberAt bytes)) at (omega arith) (filled-tells bytes at)
+  field-tells bytes limit at = checked-tells (leb (2 ^ limit)) AbsentMember (amountAt bytes) at (omega arith) (amount-tells bytes at)
 
   name-tells : {N : Type 0} (names : Naming N) (limit at : ℕ) → Tells (nameAt names limit f at)
   unfolding nameAt lengthAt
   name-tells names limit at =
-      then-tells (lengthAt limit f at) _ (checked-tells (ltb limit) LongName (checked (λ v. eqb v 0) EmptyField (numberAt 1)) at (omega arith) (filled-tells 1 at))
+      then-tells (lengthAt limit f at) _ (checked-tells (ltb limit) LongName (amountAt 1) at (omega arith) (amount-tells 1 at))
       (λ len start. refuse-tells (ltb (length f) (start + len)) EndsEarly (length f) _ (omega arith) tt)
 
   -- ---- records, and the whole file
 
-  sets-tells : (fields : List SetField) (count number m k at : ℕ) → Tells (setsAt fields count number m k f at)
-  unfolding setsAt
-  sets-tells [] count number m k at = tt
-  sets-tells (s ∷ fields) count number m k at =
-      then-tells (optional (member m k) 0 (fieldAt (s .bytes) (below (s .bound) count number)) f at) _ (optional-tells (member m k) 0 (fieldAt (s .bytes) (below (s .bound) count number)) at (field-tells (s .bytes) (below (s .bound) count number) at))
-      (λ v a. then-tells (setsAt fields count number m (suc k) f a) _ (sets-tells fields count number m (suc k) a) (λ vs b. tt))
+  item-tells : (field : Field) (count number at : ℕ) → Tells (itemAt field count number f at)
+  item-tells (set bytes bound) count number at = field-tells bytes (below bound count number) at
+  item-tells (amount bytes) count number at = amount-tells bytes at
 
-  entry-tells : {N : Type 0} (names : Naming N) (layout : Layout) (count number at : ℕ) → Tells (entryAt names layout count number f at)
-  unfolding entryAt
-  entry-tells names layout count number at =
-      let n = length (layout .fields) in
-      then-tells (mapAt (suc n) f at) _ (map-tells (suc n) at) (λ m a.
-      then-tells (setsAt (layout .fields) count number m 0 f a) _ (sets-tells (layout .fields) count number m 0 a) (λ sets b.
-      then-tells (optional (member m n) (names .absent) (nameAt names (layout .longest)) f b) _ (optional-tells (member m n) (names .absent) (nameAt names (layout .longest)) b (name-tells names (layout .longest) b)) (λ name c. tt)))
+  fields-tells : (fields : List Field) (count number m k at : ℕ) → Tells (fieldsAt fields count number m k f at)
+  unfolding fieldsAt
+  fields-tells [] count number m k at = tt
+  fields-tells (field ∷ fields) count number m k at =
+      then-tells (optional (member m k) 0 (itemAt field count number) f at) _ (optional-tells (member m k) 0 (itemAt field count number) at (item-tells field count number at))
+      (λ v a. then-tells (fieldsAt fields count number m (suc k) f a) _ (fields-tells fields count number m (suc k) a) (λ vs b. tt))
+
+  record-tells : {N : Type 0} (names : Naming N) (layout : Layout) (count number at : ℕ) → Tells (recordAt names layout count number f at)
+  unfolding recordAt
+  record-tells names layout count number at =
+      let n = nameBit layout in
+      then-tells (mapAt (bits layout) f at) _ (map-tells (bits layout) at) (λ m a.
+      then-tells (fieldsAt (layout .before) count number m 0 f a) _ (fields-tells (layout .before) count number m 0 a) (λ before b.
+      then-tells (optional (member m n) (names .absent) (nameAt names (layout .longest)) f b) _ (optional-tells (member m n) (names .absent) (nameAt names (layout .longest)) b (name-tells names (layout .longest) b)) (λ name c.
+      then-tells (fieldsAt (layout .after) count number m (suc n) f c) _ (fields-tells (layout .after) count number m (suc n) c) (λ after d. tt))))
 
   body-tells : {N : Type 0} (names : Naming N) (layout : Layout) (at : ℕ) → Tells (bodyAt names layout f at)
   unfolding bodyAt
   body-tells names layout at =
       then-tells (eachAt (λ c. countAt (c .bytes) (c .limit)) (layout .counts) f at) _ (each-tells (λ c. countAt (c .bytes) (c .limit)) (λ c. count-tells (c .bytes) (c .limit)) (layout .counts) at) (λ counts a.
       then-tells (eachAt (λ bytes. setAt bytes (getD counts 1 0)) (layout .heads) f a) _ (each-tells (λ bytes. setAt bytes (getD counts 1 0)) (λ bytes. set-tells bytes (getD counts 1 0)) (layout .heads) a) (λ heads b.
-      then-tells (eachAt (entryAt names layout (getD counts 1 0)) (upFrom (getD counts 0 0) 0) f b) _ (each-tells (entryAt names layout (getD counts 1 0)) (entry-tells names layout (getD counts 1 0)) (upFrom (getD counts 0 0) 0) b) (λ entries c. tt)))
+      then-tells (eachAt (recordAt names layout (getD counts 1 0)) (upFrom (getD counts 0 0) 0) f b) _ (each-tells (recordAt names layout (getD counts 1 0)) (record-tells names layout (getD counts 1 0)) (upFrom (getD counts 0 0) 0) b) (λ records c. tt)))
+
+  there-tells : (l : Option Layout) (next : ℕ) → Tells (layoutOr l next)
+  there-tells none next = omega arith
+  there-tells (some layout) next = tt
+
+  layout-tells : (takes : ℕ → Bool) (at : ℕ) → Tells (layoutAt takes f at)
+  unfolding layoutAt
+  layout-tells takes at = then-tells (kindAt takes f at) _ (kind-tells takes at) (λ kind a. there-tells (layoutOf kind) a)
 
   job-tells : (takes : ℕ → Bool) → Tells (readJob takes f)
   unfolding readJob read
   job-tells takes =
-      then-tells (kindAt takes f 0) _ (kind-tells takes 0) (λ kind a.
-      then-tells (bodyAt (bytesIn f) (layoutOf kind) f a) _ (body-tells (bytesIn f) (layoutOf kind) a) (λ job end. refuse-tells (ltb end (length f)) TrailingBytes end (got job (length f)) (omega arith) tt))
+      then-tells (layoutAt takes f 0) _ (layout-tells takes 0) (λ layout a.
+      then-tells (bodyAt (bytesIn f) layout f a) _ (body-tells (bytesIn f) layout a) (λ job end. refuse-tells (ltb end (length f)) TrailingBytes end (got job (length f)) (omega arith) tt))
 
 pub file-reason : (takes : ℕ → Bool) (f : List ℕ) {reason : Reason} {place : ℕ} → readJob takes f ≡ refused reason place → numberOf reason ≤ 8
 file-reason takes f e = subst (λ (g : Got (Job (List ℕ))). Tells g) e (job-tells f takes)

@@ -2,6 +2,7 @@
 use mathlib.Core.Path.{_≡_, refl, sym, ap, subst, _∙_}
 use mathlib.Core.Bool.{Bool, true, false, not}
 use mathlib.Core.List.{List, [], _∷_, map}
+use mathlib.Core.Option.{Option, some}
 use Prim.Native.Nat.{ℕ, zero, suc, _+_, _^_, _≤_, _<_, zero-le}
 use native.Mathlib.Omega.{arith}
 use lib.Dec.{leb, ltb, eqb}
@@ -15,14 +16,14 @@ use Rattle.reading.specs.declared.Spot.{Spot}
 use Rattle.reading.specs.Got.{Got, got, refused, Reader, refuse, checked, optional, eachAt, upFrom}
 use Rattle.reading.specs.Items.{Naming, spots, kindAt, numberAt, countAt, mapAt, setAt, fieldAt, nameAt}
 use Rattle.jobfile.specs.declared.ReadFitting.{ReadFitting}
-use Rattle.jobfile.specs.Layout.{Bound, counted, SetField, Layout, fitting, layoutOf}
-use Rattle.jobfile.specs.Job.{Entry, Job, column, size, factCount, horizon, start, goal}
-use Rattle.jobfile.specs.Read.{below, setsAt, entryAt, bodyAt, read, readJob, fittings}
+use Rattle.jobfile.specs.Layout.{Bound, counted, Field, set, amount, Layout, nameBit, bits, choice, fitting, kinds, layoutIn, layoutOf}
+use Rattle.jobfile.specs.Job.{Record, Job, column, size, factCount, horizon, start, goal}
+use Rattle.jobfile.specs.Read.{below, itemAt, fieldsAt, recordAt, bodyAt, layoutOr, layoutAt, read, readJob, fittings}
 use Rattle.jobfile.specs.Answers.{padded, Few, FittingBounds}
 use Rattle.jobfile.specs.Answers as Answers
 use Rattle.jobfile.proofs.Lawful.{All, then-got, refuse-got, same-value}
 use Rattle.jobfile.proofs.ReadLaws.{padded-at, nothing-there}
-use Rattle.jobfile.proofs.NamingLaws.{mapGot, entryBy, jobBy, read-same}
+use Rattle.jobfile.proofs.NamingLaws.{mapGot, recordBy, jobBy, read-same}
 use Rattle.graph.specs.Rounds.{fittingOf}
 use Rattle.graph.specs.Back.{Sized}
 use Rattle.layering.specs.Drawn.{fittingIn}
@@ -80,84 +81,101 @@ all-below : (limit : ℕ) (vs : List ℕ) → All (λ v. v < 2 ^ limit) vs → B
 all-below limit [] o = below-none limit
 all-below limit (v ∷ vs) o = below-more limit v vs (o .0) (all-below limit vs (o .1))
 
-column-below : {N : Type 0} (limit : ℕ) (es : List (Entry N)) → All (λ e. Below limit (e .sets)) es → (k : ℕ) → Below limit (column k es)
+column-below : {N : Type 0} (limit : ℕ) (rs : List (Record N)) → All (λ r. Below limit (r .before)) rs → (k : ℕ) → Below limit (column k rs)
 column-below limit [] o k = below-none limit
-column-below limit (e ∷ es) o k = below-more limit (getD (e .sets) k 0) (column k es) (o .0 k) (column-below limit es (o .1) k)
+column-below limit (r ∷ rs) o k = below-more limit (getD (r .before) k 0) (column k rs) (o .0 k) (column-below limit rs (o .1) k)
 
--- ---- records and files whose sets are all of what the file counts
+-- ---- records and files whose fields before the name are all sets of what the file counts
 
-abbrev Counted : List SetField → Type 0
-Counted fields = All (λ s. s .bound ≡ counted) fields
+abbrev IsCounted : Field → Type 0
+IsCounted (set bytes bound) = bound ≡ counted
+IsCounted (amount bytes) = ⊥
 
-sets-below : (fields : List SetField) → Counted fields → (count number m k : ℕ) (f : List ℕ) (at : ℕ) (vs : List ℕ) (n : ℕ) → setsAt fields count number m k f at ≡ got vs n → Below count vs
-unfolding setsAt
-sets-below [] o count number m k f at vs n e = subst (Below count) (same-value e) (below-none count)
-sets-below (s ∷ fields) o count number m k f at vs n e =
-    let t = then-got (optional (member m k) 0 (fieldAt (s .bytes) (below (s .bound) count number)) f at) _ e in
-    let u = then-got (setsAt fields count number m (suc k) f (t .next)) _ (t .second) in
-    let h : t .value < 2 ^ count = subst (λ (b : Bound). t .value < 2 ^ below b count number) (o .0) (field-below (member m k) (s .bytes) (below (s .bound) count number) f at (t .first)) in
-    subst (Below count) (same-value (u .second)) (below-more count (t .value) (u .value) h (sets-below fields (o .1) count number m (suc k) f (t .next) (u .value) (u .next) (u .first)))
+abbrev Counted : List Field → Type 0
+Counted fields = All IsCounted fields
+
+item-below : (field : Field) → IsCounted field → (marked : Bool) (count number : ℕ) (f : List ℕ) (at : ℕ) {v n : ℕ} → optional marked 0 (itemAt field count number) f at ≡ got v n → v < 2 ^ count
+item-below (set bytes bound) o marked count number f at {v} e = subst (λ (b : Bound). v < 2 ^ below b count number) o (field-below marked bytes (below bound count number) f at e)
+item-below (amount bytes) o marked count number f at e = absurd o
+
+fields-below : (fields : List Field) → Counted fields → (count number m k : ℕ) (f : List ℕ) (at : ℕ) (vs : List ℕ) (n : ℕ) → fieldsAt fields count number m k f at ≡ got vs n → Below count vs
+unfolding fieldsAt
+fields-below [] o count number m k f at vs n e = subst (Below count) (same-value e) (below-none count)
+fields-below (field ∷ fields) o count number m k f at vs n e =
+    let t = then-got (optional (member m k) 0 (itemAt field count number) f at) _ e in
+    let u = then-got (fieldsAt fields count number m (suc k) f (t .next)) _ (t .second) in
+    let h : t .value < 2 ^ count = item-below field (o .0) (member m k) count number f at (t .first) in
+    subst (Below count) (same-value (u .second)) (below-more count (t .value) (u .value) h (fields-below fields (o .1) count number m (suc k) f (t .next) (u .value) (u .next) (u .first)))
 
 -- the start, the goal and all that steps need, give or take are facts that there are
 pub record Kept {N : Type 0} (job : Job N) : Type 0 where
   pub heads : Below (factCount job) (job .heads)
-  pub columns : (k : ℕ) → Below (factCount job) (column k (job .entries))
+  pub columns : (k : ℕ) → Below (factCount job) (column k (job .records))
 
-fitting-counted : Counted (layoutOf 70 .fields)
-unfolding layoutOf fitting
+-- the layout of a fitting is such
+fitting-counted : Counted (fitting .before)
+unfolding fitting
 fitting-counted = (refl, (refl, (refl, tt)))
 
-module _ {N : Type 0} (names : Naming N) where
-  entry-below : (layout : Layout) → Counted (layout .fields) → (count number : ℕ) (f : List ℕ) (at : ℕ) (e : Entry N) (n : ℕ) → entryAt names layout count number f at ≡ got e n → Below count (e .sets)
-  unfolding entryAt
-  entry-below layout o count number f at e n q =
-      let t = then-got (mapAt (suc (length (layout .fields))) f at) _ q in
-      let u = then-got (setsAt (layout .fields) count number (t .value) 0 f (t .next)) _ (t .second) in
-      let v = then-got (optional (member (t .value) (length (layout .fields))) (names .absent) (nameAt names (layout .longest)) f (u .next)) _ (u .second) in
-      subst (λ (x : Entry N). Below count (x .sets)) (same-value (v .second)) (sets-below (layout .fields) o count number (t .value) 0 f (t .next) (u .value) (u .next) (u .first))
+fitting-there : layoutOf 70 ≡ some fitting
+unfolding choice fitting kinds layoutIn
+fitting-there = refl
 
-  body-kept : (layout : Layout) → Counted (layout .fields) → (f : List ℕ) (at : ℕ) (job : Job N) (n : ℕ) → bodyAt names layout f at ≡ got job n → Kept job
+module _ {N : Type 0} (names : Naming N) where
+  record-below : (layout : Layout) → Counted (layout .before) → (count number : ℕ) (f : List ℕ) (at : ℕ) (r : Record N) (n : ℕ) → recordAt names layout count number f at ≡ got r n → Below count (r .before)
+  unfolding recordAt
+  record-below layout o count number f at r n q =
+      let t = then-got (mapAt (bits layout) f at) _ q in
+      let u = then-got (fieldsAt (layout .before) count number (t .value) 0 f (t .next)) _ (t .second) in
+      let v = then-got (optional (member (t .value) (nameBit layout)) (names .absent) (nameAt names (layout .longest)) f (u .next)) _ (u .second) in
+      let w = then-got (fieldsAt (layout .after) count number (t .value) (suc (nameBit layout)) f (v .next)) _ (v .second) in
+      let made : Record N = record { before = u .value; name = v .value; after = w .value } in
+      subst (λ (x : Record N). Below count (x .before)) {x = made} (same-value {a = made} (w .second)) (fields-below (layout .before) o count number (t .value) 0 f (t .next) (u .value) (u .next) (u .first))
+
+  body-kept : (layout : Layout) → Counted (layout .before) → (f : List ℕ) (at : ℕ) (job : Job N) (n : ℕ) → bodyAt names layout f at ≡ got job n → Kept job
   unfolding bodyAt
   body-kept layout o f at job n e =
       let t = then-got (eachAt (λ c. countAt (c .bytes) (c .limit)) (layout .counts) f at) _ e in
       let count = getD (t .value) 1 0 in
       let u = then-got (eachAt (λ bytes. setAt bytes count) (layout .heads) f (t .next)) _ (t .second) in
-      let v = then-got (eachAt (entryAt names layout count) (upFrom (getD (t .value) 0 0) 0) f (u .next)) _ (u .second) in
-      let made : Job N = record { kind = layout .kind; counts = t .value; heads = u .value; entries = v .value } in
+      let v = then-got (eachAt (recordAt names layout count) (upFrom (getD (t .value) 0 0) 0) f (u .next)) _ (u .second) in
+      let made : Job N = record { kind = layout .kind; counts = t .value; heads = u .value; records = v .value } in
       let heads = all-below count (u .value) (each-all (λ x. x < 2 ^ count) (λ bytes. setAt bytes count) (λ bytes g a b m. set-below bytes count g a) (layout .heads) f (t .next) (u .value) (u .next) (u .first)) in
-      let columns = column-below count (v .value) (each-all (λ x. Below count (x .sets)) (entryAt names layout count) (entry-below layout o count) (upFrom (getD (t .value) 0 0) 0) f (u .next) (v .value) (v .next) (v .first)) in
+      let columns = column-below count (v .value) (each-all (λ x. Below count (x .before)) (recordAt names layout count) (record-below layout o count) (upFrom (getD (t .value) 0 0) 0) f (u .next) (v .value) (v .next) (v .first)) in
       subst Kept {x = made} (same-value {a = made} (v .second)) (record { heads = heads; columns = columns })
 
   pub read-kept : (f : List ℕ) (job : Job N) (end : ℕ) → read names fittings f ≡ got job end → Kept job
-  unfolding read
+  unfolding read layoutAt
   read-kept f job end e =
-      let t = then-got (kindAt fittings f 0) _ e in
-      let u = then-got (bodyAt names (layoutOf (t .value)) f (t .next)) _ (t .second) in
+      let t = then-got (layoutAt fittings f 0) _ e in
+      let u = then-got (bodyAt names (t .value) f (t .next)) _ (t .second) in
       let s = refuse-got (ltb (u .next) (length f)) TrailingBytes (u .next) (got (u .value) (length f)) (u .second) in
-      let kind : t .value ≡ 70 = eqb-true (t .value) 70 (kind-taken fittings f 0 (t .first)) in
-      subst Kept (same-value (s .1)) (body-kept (layoutOf (t .value)) (subst (λ (k : ℕ). Counted (layoutOf k .fields)) (sym kind) fitting-counted) f (t .next) (u .value) (u .next) (u .first))
+      let k = then-got (kindAt fittings f 0) _ (t .first) in
+      let kind : k .value ≡ 70 = eqb-true (k .value) 70 (kind-taken fittings f 0 (k .first)) in
+      let there : layoutOr (some fitting) (k .next) ≡ got (t .value) (t .next) = ap (λ (l : Option Layout). layoutOr l (k .next)) (sym (ap layoutOf kind ∙ fitting-there)) ∙ k .second in
+      subst Kept (same-value (s .1)) (body-kept (t .value) (subst (λ (l : Layout). Counted (l .before)) (same-value there) fitting-counted) f (t .next) (u .value) (u .next) (u .first))
 
 -- ---- the fitting that the code has
 
-pub column-length : {N : Type 0} (k : ℕ) (entries : List (Entry N)) → length (column k entries) ≡ length entries
+pub column-length : {N : Type 0} (k : ℕ) (records : List (Record N)) → length (column k records) ≡ length records
 column-length k [] = refl
-column-length k (e ∷ es) = ap suc (column-length k es)
+column-length k (r ∷ rs) = ap suc (column-length k rs)
 
 -- what names are taken for does not touch the sets
-pub column-by : (f : List ℕ) (k : ℕ) (entries : List (Entry Spot)) → column k (map (entryBy f) entries) ≡ column k entries
+pub column-by : (f : List ℕ) (k : ℕ) (records : List (Record Spot)) → column k (map (recordBy f) records) ≡ column k records
 column-by f k [] = refl
-column-by f k (e ∷ es) = ap (λ (l : List ℕ). getD (e .sets) k 0 ∷ l) (column-by f k es)
+column-by f k (r ∷ rs) = ap (λ (l : List ℕ). getD (r .before) k 0 ∷ l) (column-by f k rs)
 
 pub fitting-by : (f : List ℕ) (job : Job Spot) → fittingOf (jobBy f job) ≡ fittingOf job
-fitting-by f job = rw (column-by f 0 (job .entries), column-by f 1 (job .entries), column-by f 2 (job .entries))
+fitting-by f job = rw (column-by f 0 (job .records), column-by f 1 (job .records), column-by f 2 (job .records))
 
 module _ (job : Job Spot) (end : ℕ) (few : Few 32 (got job end)) where
   -- an array of the code has the words of its list
-  word-at : (k a : ℕ) → getD (padded 64 (column k (job .entries))) a 0 ≡ getD (column k (job .entries)) a 0
-  word-at k a = padded-at 64 (column k (job .entries)) (omega (arith, column-length k (job .entries), few .0, few .1)) a
+  word-at : (k a : ℕ) → getD (padded 64 (column k (job .records))) a 0 ≡ getD (column k (job .records)) a 0
+  word-at k a = padded-at 64 (column k (job .records)) (omega (arith, column-length k (job .records), few .0, few .1)) a
 
-  word-past : (k a : ℕ) → size job ≤ a → getD (padded 64 (column k (job .entries))) a 0 ≡ 0
-  word-past k a h = word-at k a ∙ List·getD-eq-default (column k (job .entries)) 0 {n = a} (omega (arith, column-length k (job .entries), few .0))
+  word-past : (k a : ℕ) → size job ≤ a → getD (padded 64 (column k (job .records))) a 0 ≡ 0
+  word-past k a h = word-at k a ∙ List·getD-eq-default (column k (job .records)) 0 {n = a} (omega (arith, column-length k (job .records), few .0))
 
   -- it is the fitting of the job that was read
   job-same : fittingIn (Answers.fittingOf (got job end)) ≡ fittingOf job
@@ -182,7 +200,7 @@ module _ (job : Job Spot) (end : ℕ) (few : Few 32 (got job end)) where
     past = λ a l. (word-past 0 a l, word-past 1 a l, word-past 2 a l);
   }
     where
-      below-limit : (k a : ℕ) → getD (padded 64 (column k (job .entries))) a 0 < 2 ^ factCount job
+      below-limit : (k a : ℕ) → getD (padded 64 (column k (job .records))) a 0 < 2 ^ factCount job
       below-limit k a = subst (λ (x : ℕ). x < 2 ^ factCount job) (sym (word-at k a)) (kept .columns k a)
 
 -- where nothing was read there is no step and no fact

@@ -1,4 +1,4 @@
--- The laws of the items: numbers, counts, bit maps, sets, names, the kind. Assumes nothing.
+-- The laws of the items: numbers, the kind, counts, bit maps, sets, amounts, names. Assumes nothing.
 use mathlib.Core.Path.{_≡_, refl, ap, sym, _∙_, subst}
 use mathlib.Core.Bool.{Bool, true, false, not}
 use mathlib.Core.List.{List, [], _∷_, _++_}
@@ -12,7 +12,7 @@ use lib.Seq.{drop-cons, drop-drop, getD-drop, take-at, length-take-le}
 use borrow.Author.Tests.{leb-false, ltb-false, lt-leb, le-ltb, eqb-false, ne-eqb, not-false}
 use Rattle.reading.specs.declared.Reason.the-variants.{WrongKind, EndsEarly, OverLimit, ForbiddenBit, EmptyField, AbsentMember, LongName}
 use Rattle.reading.specs.Got.{got, refuse}
-use Rattle.reading.specs.Items.{bytesIn, kindAt, valueAt, numberAt, countAt, mapAt, setAt, fieldAt, lengthAt, nameAt}
+use Rattle.reading.specs.Items.{bytesIn, kindAt, valueAt, numberAt, countAt, mapAt, setAt, amountAt, fieldAt, lengthAt, nameAt}
 use Rattle.jobfile.specs.Write.{bytesOf}
 use Rattle.jobfile.specs.Valid.{Bytes}
 use Rattle.jobfile.proofs.Lawful.{Lawful, refuse-got, same-value, same-next, in-front, front, behind, ends-within, checked-lawful, seq-lawful, restate}
@@ -100,13 +100,14 @@ positive : (v : ℕ) → eqb v 0 ≡ false → 0 < v
 positive zero e = absurd (eqb-false 0 0 e refl)
 positive (suc v) e = omega arith
 
+pub amount-lawful : (bytes : ℕ) → Lawful (amountAt bytes) (bytesOf bytes) (λ v. (0 < v) × (v < 256 ^ bytes))
+amount-lawful bytes =
+    restate (checked-lawful (λ v. eqb v 0) EmptyField (number-lawful bytes)) (λ v o. (positive v (o .1), o .0)) (λ v o. (o .1, ne-eqb v 0 (λ z. omega (arith, o .0)))) (λ v o. refl)
+
 pub field-lawful : (bytes limit : ℕ) → 2 ^ limit ≤ 256 ^ bytes → Lawful (fieldAt bytes limit) (bytesOf bytes) (λ v. (0 < v) × (v < 2 ^ limit))
 unfolding fieldAt
 field-lawful bytes limit h =
-    restate (checked-lawful (leb (2 ^ limit)) AbsentMember (checked-lawful (λ v. eqb v 0) EmptyField (number-lawful bytes)))
-    (λ v o. (positive v (o .0 .1), leb-false (2 ^ limit) v (o .1)))
-    (λ v o. ((omega arith, ne-eqb v 0 (λ z. omega arith)), lt-leb (2 ^ limit) v (o .1)))
-    (λ v o. refl)
+    restate (checked-lawful (leb (2 ^ limit)) AbsentMember (amount-lawful bytes)) (λ v o. (o .0 .0, leb-false (2 ^ limit) v (o .1))) (λ v o. ((o .0, omega arith), lt-leb (2 ^ limit) v (o .1))) (λ v o. refl)
 
 -- ---- names
 

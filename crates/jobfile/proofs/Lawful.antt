@@ -92,6 +92,10 @@ pure-lawful x =
       back = λ a v f at h t e. rw (v, add-zero at);
     }
 
+-- nothing can be read
+pub refused-lawful : {A : Type 0} (reason : Reason) (place : ℕ) (write : A → List ℕ) → Lawful (λ f at. refused reason place) write (λ a. ⊥)
+refused-lawful reason place write = record { exact = λ f b at h a n e. let z : _≡_ {A = ℕ} 0 1 = cc in absurd (omega arith); back = λ a v f at h t e. absurd v }
+
 -- the same laws for another way of saying what is written and what is valid
 pub restate : {A : Type 0} {read : Reader A} {write write′ : A → List ℕ} {Ok Ok′ : A → Type 0} → Lawful read write Ok
     → ((a : A) → Ok a → Ok′ a) → ((a : A) → Ok′ a → Ok a) → ((a : A) → Ok a → write a ≡ write′ a) → Lawful read write′ Ok′

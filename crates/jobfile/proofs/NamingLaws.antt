@@ -10,10 +10,10 @@ use Rattle.reading.specs.declared.Reason.{Reason}
 use Rattle.reading.specs.declared.Reason.the-variants.{EndsEarly, TrailingBytes}
 use Rattle.reading.specs.declared.Spot.{Spot}
 use Rattle.reading.specs.Got.{Got, got, refused, refuse, andThen, optional, eachAt, upFrom}
-use Rattle.reading.specs.Items.{bytesIn, spots, kindAt, countAt, mapAt, setAt, lengthAt, nameAt}
-use Rattle.jobfile.specs.Layout.{Layout, layoutOf}
-use Rattle.jobfile.specs.Job.{Entry, Job, namesOf}
-use Rattle.jobfile.specs.Read.{setsAt, entryAt, bodyAt, read, readJob}
+use Rattle.reading.specs.Items.{bytesIn, spots, countAt, mapAt, setAt, lengthAt, nameAt}
+use Rattle.jobfile.specs.Layout.{Layout, nameBit, bits}
+use Rattle.jobfile.specs.Job.{Record, Job, namesOf}
+use Rattle.jobfile.specs.Read.{fieldsAt, recordAt, bodyAt, layoutAt, read, readJob}
 use Rattle.jobfile.specs.Answers.{spotIn, nameIn}
 
 -- the bytes at a spot
@@ -40,11 +40,11 @@ refuse-map g true reason place r = refl
 refuse-map g false reason place r = refl
 
 module _ (f : List ℕ) where
-  abbrev pub entryBy : Entry Spot → Entry (List ℕ)
-  entryBy e = record { sets = e .sets; name = bytesAt f (e .name) }
+  abbrev pub recordBy : Record Spot → Record (List ℕ)
+  recordBy r = record { before = r .before; name = bytesAt f (r .name); after = r .after }
 
   abbrev pub jobBy : Job Spot → Job (List ℕ)
-  jobBy j = record { kind = j .kind; counts = j .counts; heads = j .heads; entries = map entryBy (j .entries) }
+  jobBy j = record { kind = j .kind; counts = j .counts; heads = j .heads; records = map recordBy (j .records) }
 
   name-same : (limit at : ℕ) → nameAt (bytesIn f) limit f at ≡ mapGot (bytesAt f) (nameAt spots limit f at)
   unfolding nameAt
@@ -54,44 +54,45 @@ module _ (f : List ℕ) where
   marked-same true limit at = name-same limit at
   marked-same false limit at = refl
 
-  entry-same : (layout : Layout) (count own at : ℕ) → entryAt (bytesIn f) layout count own f at ≡ mapGot entryBy (entryAt spots layout count own f at)
-  unfolding entryAt
-  entry-same layout count own at =
-      and-map entryBy (mapAt (suc (length (layout .fields))) f at) _ _ (λ m a.
-      and-map entryBy (setsAt (layout .fields) count own m 0 f a) _ _ (λ vs b.
-      ap (λ r. andThen r λ name c. got (record { sets = vs; name = name }) c) (marked-same (member m (length (layout .fields))) (layout .longest) b)
-      ∙ map-then (bytesAt f) entryBy (optional (member m (length (layout .fields))) (spots .absent) (nameAt spots (layout .longest)) f b) _ _ (λ s n. refl)))
+  record-same : (layout : Layout) (count own at : ℕ) → recordAt (bytesIn f) layout count own f at ≡ mapGot recordBy (recordAt spots layout count own f at)
+  unfolding recordAt
+  record-same layout count own at =
+      and-map recordBy (mapAt (bits layout) f at) _ _ (λ m a.
+      and-map recordBy (fieldsAt (layout .before) count own m 0 f a) _ _ (λ vs b.
+      ap (λ r. andThen r λ name c. andThen (fieldsAt (layout .after) count own m (suc (nameBit layout)) f c) λ ws d. got (record { before = vs; name = name; after = ws }) d) (marked-same (member m (nameBit layout)) (layout .longest) b)
+      ∙ map-then (bytesAt f) recordBy (optional (member m (nameBit layout)) (spots .absent) (nameAt spots (layout .longest)) f b) _ _ (λ s c.
+      and-map recordBy (fieldsAt (layout .after) count own m (suc (nameBit layout)) f c) _ _ (λ ws d. refl))))
 
-  entries-same : (layout : Layout) (count : ℕ) (xs : List ℕ) (at : ℕ) → eachAt (entryAt (bytesIn f) layout count) xs f at ≡ mapGot (map entryBy) (eachAt (entryAt spots layout count) xs f at)
+  records-same : (layout : Layout) (count : ℕ) (xs : List ℕ) (at : ℕ) → eachAt (recordAt (bytesIn f) layout count) xs f at ≡ mapGot (map recordBy) (eachAt (recordAt spots layout count) xs f at)
   unfolding eachAt
-  entries-same layout count [] at = refl
-  entries-same layout count (x ∷ xs) at =
-      ap (λ r. andThen r λ y a. andThen (eachAt (entryAt (bytesIn f) layout count) xs f a) λ ys b. got (y ∷ ys) b) (entry-same layout count x at)
-      ∙ map-then entryBy (map entryBy) (entryAt spots layout count x f at) _ _ (λ y a. rest y a (entries-same layout count xs a))
+  records-same layout count [] at = refl
+  records-same layout count (x ∷ xs) at =
+      ap (λ r. andThen r λ y a. andThen (eachAt (recordAt (bytesIn f) layout count) xs f a) λ ys b. got (y ∷ ys) b) (record-same layout count x at)
+      ∙ map-then recordBy (map recordBy) (recordAt spots layout count x f at) _ _ (λ y a. rest y a (records-same layout count xs a))
     where
-      rest : (y : Entry Spot) (a : ℕ) → eachAt (entryAt (bytesIn f) layout count) xs f a ≡ mapGot (map entryBy) (eachAt (entryAt spots layout count) xs f a)
-          → andThen (eachAt (entryAt (bytesIn f) layout count) xs f a) (λ ys b. got (entryBy y ∷ ys) b) ≡ mapGot (map entryBy) (andThen (eachAt (entryAt spots layout count) xs f a) λ ys b. got (y ∷ ys) b)
-      rest y a e = ap (λ r. andThen r λ ys b. got (entryBy y ∷ ys) b) e ∙ map-then (map entryBy) (map entryBy) (eachAt (entryAt spots layout count) xs f a) _ _ (λ ys b. refl)
+      rest : (y : Record Spot) (a : ℕ) → eachAt (recordAt (bytesIn f) layout count) xs f a ≡ mapGot (map recordBy) (eachAt (recordAt spots layout count) xs f a)
+          → andThen (eachAt (recordAt (bytesIn f) layout count) xs f a) (λ ys b. got (recordBy y ∷ ys) b) ≡ mapGot (map recordBy) (andThen (eachAt (recordAt spots layout count) xs f a) λ ys b. got (y ∷ ys) b)
+      rest y a e = ap (λ r. andThen r λ ys b. got (recordBy y ∷ ys) b) e ∙ map-then (map recordBy) (map recordBy) (eachAt (recordAt spots layout count) xs f a) _ _ (λ ys b. refl)
 
   body-same : (layout : Layout) (at : ℕ) → bodyAt (bytesIn f) layout f at ≡ mapGot jobBy (bodyAt spots layout f at)
   unfolding bodyAt
   body-same layout at =
       and-map jobBy (eachAt (λ c. countAt (c .bytes) (c .limit)) (layout .counts) f at) _ _ (λ counts a.
       and-map jobBy (eachAt (λ bytes. setAt bytes (getD counts 1 0)) (layout .heads) f a) _ _ (λ heads b.
-      ap (λ r. andThen r λ entries c. got (record { kind = layout .kind; counts = counts; heads = heads; entries = entries }) c) (entries-same layout (getD counts 1 0) (upFrom (getD counts 0 0) 0) b)
-      ∙ map-then (map entryBy) jobBy (eachAt (entryAt spots layout (getD counts 1 0)) (upFrom (getD counts 0 0) 0) f b) _ _ (λ es c. refl)))
+      ap (λ r. andThen r λ records c. got (record { kind = layout .kind; counts = counts; heads = heads; records = records }) c) (records-same layout (getD counts 1 0) (upFrom (getD counts 0 0) 0) b)
+      ∙ map-then (map recordBy) jobBy (eachAt (recordAt spots layout (getD counts 1 0)) (upFrom (getD counts 0 0) 0) f b) _ _ (λ rs c. refl)))
 
   pub read-same : (takes : ℕ → Bool) → readJob takes f ≡ mapGot jobBy (read spots takes f)
   unfolding readJob read
   read-same takes =
-      and-map jobBy (kindAt takes f 0) _ _ (λ kind a.
-      ap (λ r. andThen r λ job end. refuse (ltb end (length f)) TrailingBytes end (got job (length f))) (body-same (layoutOf kind) a)
-      ∙ map-then jobBy jobBy (bodyAt spots (layoutOf kind) f a) _ _ (λ job end. refuse-map jobBy (ltb end (length f)) TrailingBytes end (got job (length f))))
+      and-map jobBy (layoutAt takes f 0) _ _ (λ layout a.
+      ap (λ r. andThen r λ job end. refuse (ltb end (length f)) TrailingBytes end (got job (length f))) (body-same layout a)
+      ∙ map-then jobBy jobBy (bodyAt spots layout f a) _ _ (λ job end. refuse-map jobBy (ltb end (length f)) TrailingBytes end (got job (length f))))
 
-  pub names-same : (entries : List (Entry Spot)) (i : ℕ) → getD (namesOf (map entryBy entries)) i [] ≡ bytesAt f (getD (namesOf entries) i (spots .absent))
+  pub names-same : (records : List (Record Spot)) (i : ℕ) → getD (namesOf (map recordBy records)) i [] ≡ bytesAt f (getD (namesOf records) i (spots .absent))
   names-same [] i = refl
-  names-same (e ∷ es) zero = refl
-  names-same (e ∷ es) (suc i) = names-same es i
+  names-same (r ∷ rs) zero = refl
+  names-same (r ∷ rs) (suc i) = names-same rs i
 
   -- the name of a record is what stands at its spot
   pub name-at-spot : (takes : ℕ → Bool) (i : ℕ) → nameIn (readJob takes f) i ≡ bytesAt f (spotIn (read spots takes f) i)
@@ -99,4 +100,4 @@ module _ (f : List ℕ) where
     where
       go : (g : Got (Job Spot)) → nameIn (mapGot jobBy g) i ≡ bytesAt f (spotIn g i)
       go (refused reason place) = refl
-      go (got job end) = names-same (job .entries) i
+      go (got job end) = names-same (job .records) i

@@ -18,21 +18,23 @@ use Rattle.jobfile.specs.declared.ReadChoice.{ReadChoice}
 use Rattle.jobfile.specs.declared.ReadFitting.{ReadFitting}
 use Rattle.reading.specs.declared.item.Cursor.{Cursor}
 use Rattle.reading.specs.declared.item.Cursor.the-variants as Cursor
-use Rattle.jobfile.specs.declared.entry.Rows.{Rows}
+use Rattle.jobfile.specs.declared.records.Kind.{Kind}
+use Rattle.jobfile.specs.declared.records.Kind.the-variants.{Choice, Fitting}
+use Rattle.jobfile.specs.declared.records.Records.{Records}
 use Rattle.reading.specs.Got.{Got, got, refused, eachAt, upFrom}
 use Rattle.reading.specs.Items.{Naming, spots, kindAt, countAt, setAt}
-use Rattle.jobfile.specs.Layout.{choice, fitting, layoutOf}
-use Rattle.jobfile.specs.Job.{Entry, Job, namesOf, wishes, clashes, needs, gives, takes}
-use Rattle.jobfile.specs.Read.{entryAt, read, choices, fittings, either}
+use Rattle.jobfile.specs.Layout.{choice, fitting, kinds, layoutIn}
+use Rattle.jobfile.specs.Job.{Record, Job, namesOf, wishes, clashes, needs, gives, takes}
+use Rattle.jobfile.specs.Read.{recordAt, layoutAt, read, choices, fittings, either}
 use Rattle.reading.specs.Cursors.{gotBy, readFrom, finished, ended}
-use Rattle.jobfile.specs.Answers.{lensOf, spotOf, spotIn, entryFrom, rowsOf, Tidy, Column, Columns, padded, startsOf, choiceOf, fittingOf, Few, Within, ChoiceBounds, FittingBounds}
+use Rattle.jobfile.specs.Answers.{lensOf, spotOf, spotIn, recordFrom, recordsOf, Tidy, Column, Columns, padded, startsOf, choiceOf, fittingOf, Few, Within, ChoiceBounds, FittingBounds}
 use Rattle.reading.proofs.StepLaws.{each-none, each-more}
 use Rattle.jobfile.proofs.StepLaws.{body-is, file-is}
 
 -- ---- columns as arrays
 
 -- a column is the array of what its records have
-pub column-is : (n : ℕ) (l : List ℕ) → Column n l → n ≤ 64 → (e : ℕ → Entry Spot) (h : Entry Spot → ℕ) → ((i : ℕ) → h (e i) ≡ getD l i 0) → l ≡ padded 64 (map h (listTo n e))
+pub column-is : (n : ℕ) (l : List ℕ) → Column n l → n ≤ 64 → (e : ℕ → Record Spot) (h : Record Spot → ℕ) → ((i : ℕ) → h (e i) ≡ getD l i 0) → l ≡ padded 64 (map h (listTo n e))
 column-is n l c room e h same = ext-getD 0 l (padded 64 (map h (listTo n e))) (c .size ∙ sym (list-length 64 _)) (λ i k. at i (decLt i n) (omega (arith, c .size)))
   where
     at : (i : ℕ) → Dec (i < n) → i < 64 → getD l i 0 ≡ getD (padded 64 (map h (listTo n e))) i 0
@@ -54,13 +56,13 @@ nothing-there i = padded-at 64 [] zero-le i
 within-none : (end : ℕ) → Within end (padded 64 []) (padded 64 [])
 within-none end i = omega (arith, nothing-there i)
 
-tidy-within : (fit : Bool) (end third start len : ℕ) → Tidy fit end third start len → start + len ≤ end
-tidy-within true end third start len t = t
-tidy-within false end third start len t = t .1
+tidy-within : (kind : Kind) (end third start len : ℕ) → Tidy kind end third start len → start + len ≤ end
+tidy-within Choice end third start len t = t .1
+tidy-within Fitting end third start len t = t
 
 -- the records that the columns hold
-abbrev held : Bool → ℕ → Rows → List (Entry Spot)
-held fit n r = listTo n (entryFrom fit (r .first) (r .second) (r .third) (r .starts) (r .lens))
+abbrev held : Kind → ℕ → Records → List (Record Spot)
+held kind n r = listTo n (recordFrom kind (r .first) (r .second) (r .third) (r .starts) (r .lens))
 
 -- ---- a reading up to the end of the file
 
@@ -73,95 +75,95 @@ module _ {A : Type 0} (value : A) (f : List ℕ) (next : Cursor) {end : Cursor} 
 
 -- ---- a choice file
 
-module _ (f : List ℕ) (n w order : ℕ) (rows : Rows) (a b c d : Cursor)
+module _ (f : List ℕ) (n w order : ℕ) (found : Records) (a b c d : Cursor)
     (kind : gotBy 67 a ≡ kindAt choices f 0) (first : gotBy n b ≡ readFrom a (countAt 1 64 f)) (second : gotBy w c ≡ readFrom b (countAt 1 64 f))
-    (head : gotBy order d ≡ readFrom c (setAt 8 w f)) (entries : rowsOf false n rows ≡ readFrom d (eachAt (entryAt spots choice w) (upFrom n 0) f)) where
+    (head : gotBy order d ≡ readFrom c (setAt 8 w f)) (each : recordsOf Choice n found ≡ readFrom d (eachAt (recordAt spots choice w) (upFrom n 0) f)) where
   choiceJob : Job Spot
-  choiceJob = record { kind = 67; counts = n ∷ w ∷ []; heads = order ∷ []; entries = held false n rows }
+  choiceJob = record { kind = 67; counts = n ∷ w ∷ []; heads = order ∷ []; records = held Choice n found }
 
-  choice-read : ended choiceJob (length f) (finished (length f) (rows .next)) ≡ read spots choices f
-  unfolding choiceJob choice layoutOf
+  choice-read : ended choiceJob (length f) (finished (length f) (found .next)) ≡ read spots choices f
+  unfolding choiceJob choice kinds layoutIn
   choice-read =
-      file-is spots choices f 67 choiceJob a (rows .next) kind
-      (body-is spots choice f (n ∷ w ∷ []) (order ∷ []) (held false n rows) c d (rows .next) a
+      file-is spots choices f 67 choice choiceJob a (found .next) kind refl
+      (body-is spots choice f (n ∷ w ∷ []) (order ∷ []) (held Choice n found) c d (found .next) a
       (each-more (λ c. countAt (c .bytes) (c .limit)) f (record { bytes = 1; limit = 64 }) (record { bytes = 1; limit = 64 } ∷ []) n (w ∷ []) b c a first
       (each-more (λ c. countAt (c .bytes) (c .limit)) f (record { bytes = 1; limit = 64 }) [] w [] c c b second (each-none (λ c. countAt (c .bytes) (c .limit)) f c)))
       (each-more (λ bytes. setAt bytes w) f 8 [] order [] d d c head (each-none (λ bytes. setAt bytes w) f d))
-      entries)
+      each)
 
   -- it was refused
-  pub choice-refused : {end : Cursor} {r : Refusal} {x : ReadChoice} → end ≡ finished (length f) (rows .next) → end ≡ Cursor.Refused r → x ≡ choiceOf (refused (r .reason) (r .place))
+  pub choice-refused : {end : Cursor} {r : Refusal} {x : ReadChoice} → end ≡ finished (length f) (found .next) → end ≡ Cursor.Refused r → x ≡ choiceOf (refused (r .reason) (r .place))
       → (x ≡ choiceOf (read spots choices f)) × ChoiceBounds f x
   choice-refused {end} {r} {x} e q h =
-      let told = end-refused choiceJob f (rows .next) e choice-read q in
+      let told = end-refused choiceJob f (found .next) e choice-read q in
       (h ∙ ap choiceOf told, rw h (zero-le, zero-le, within-none (length f), subst (Few 64) told tt))
 
   -- it was accepted
-  pub choice-accepted : {end : Cursor} {at : ℕ} → end ≡ finished (length f) (rows .next) → end ≡ Cursor.At at → n ≤ 64 → w ≤ 64 → Columns false n (length f) rows
-      → let x : ReadChoice = record { verdict = Verdict.Accepted; articles = n; «wish_count» = w; order = order; wishes = rows .first; clashes = rows .second; starts = rows .starts; lens = rows .lens } in
+  pub choice-accepted : {end : Cursor} {at : ℕ} → end ≡ finished (length f) (found .next) → end ≡ Cursor.At at → n ≤ 64 → w ≤ 64 → Columns Choice n (length f) found
+      → let x : ReadChoice = record { verdict = Verdict.Accepted; articles = n; «wish_count» = w; order = order; wishes = found .first; clashes = found .second; starts = found .starts; lens = found .lens } in
       (x ≡ choiceOf (read spots choices f)) × ChoiceBounds f x
   unfolding choiceJob
   choice-accepted {end} {at} e q ln lw ok =
-      let told = end-reached choiceJob f (rows .next) e choice-read q in
-      let from = entryFrom false (rows .first) (rows .second) (rows .third) (rows .starts) (rows .lens) in
-      let one = column-is n (rows .first) (ok .first) ln from (λ e. getD (e .sets) 0 0) (λ i. refl) in
-      let two = column-is n (rows .second) (ok .second) ln from (λ e. getD (e .sets) 1 0) (λ i. refl) in
-      let starts = column-is n (rows .starts) (ok .starts) ln from (λ e. e .name .start) (λ i. refl) in
-      let lens = column-is n (rows .lens) (ok .lens) ln from (λ e. e .name .len) (λ i. refl) in (
-        ap (λ (l : List ℕ). record { verdict = Verdict.Accepted; articles = n; «wish_count» = w; order = order; wishes = l; clashes = rows .second; starts = rows .starts; lens = rows .lens }) one
-            ∙ ap (λ (l : List ℕ). record { verdict = Verdict.Accepted; articles = n; «wish_count» = w; order = order; wishes = padded 64 (wishes choiceJob); clashes = l; starts = rows .starts; lens = rows .lens }) two
-            ∙ ap (λ (l : List ℕ). record { verdict = Verdict.Accepted; articles = n; «wish_count» = w; order = order; wishes = padded 64 (wishes choiceJob); clashes = padded 64 (clashes choiceJob); starts = l; lens = rows .lens }) starts
-            ∙ ap (λ (l : List ℕ). record { verdict = Verdict.Accepted; articles = n; «wish_count» = w; order = order; wishes = padded 64 (wishes choiceJob); clashes = padded 64 (clashes choiceJob); starts = padded 64 (startsOf (choiceJob .entries)); lens = l }) lens
+      let told = end-reached choiceJob f (found .next) e choice-read q in
+      let from = recordFrom Choice (found .first) (found .second) (found .third) (found .starts) (found .lens) in
+      let one = column-is n (found .first) (ok .first) ln from (λ r. getD (r .before) 0 0) (λ i. refl) in
+      let two = column-is n (found .second) (ok .second) ln from (λ r. getD (r .before) 1 0) (λ i. refl) in
+      let starts = column-is n (found .starts) (ok .starts) ln from (λ r. r .name .start) (λ i. refl) in
+      let lens = column-is n (found .lens) (ok .lens) ln from (λ r. r .name .len) (λ i. refl) in (
+        ap (λ (l : List ℕ). record { verdict = Verdict.Accepted; articles = n; «wish_count» = w; order = order; wishes = l; clashes = found .second; starts = found .starts; lens = found .lens }) one
+            ∙ ap (λ (l : List ℕ). record { verdict = Verdict.Accepted; articles = n; «wish_count» = w; order = order; wishes = padded 64 (wishes choiceJob); clashes = l; starts = found .starts; lens = found .lens }) two
+            ∙ ap (λ (l : List ℕ). record { verdict = Verdict.Accepted; articles = n; «wish_count» = w; order = order; wishes = padded 64 (wishes choiceJob); clashes = padded 64 (clashes choiceJob); starts = l; lens = found .lens }) starts
+            ∙ ap (λ (l : List ℕ). record { verdict = Verdict.Accepted; articles = n; «wish_count» = w; order = order; wishes = padded 64 (wishes choiceJob); clashes = padded 64 (clashes choiceJob); starts = padded 64 (startsOf (choiceJob .records)); lens = l }) lens
             ∙ ap choiceOf told,
-        (ln, lw, λ i. tidy-within false (length f) _ _ _ (ok .tidy i), subst (Few 64) told (list-length n from, ln)),
+        (ln, lw, λ i. tidy-within Choice (length f) _ _ _ (ok .tidy i), subst (Few 64) told (list-length n from, ln)),
       )
 
 -- ---- a fitting file
 
-module _ (f : List ℕ) (n m rounds begin goal : ℕ) (rows : Rows) (a b c d e₁ g : Cursor)
+module _ (f : List ℕ) (n m rounds begin goal : ℕ) (found : Records) (a b c d e₁ g : Cursor)
     (kind : gotBy 70 a ≡ kindAt fittings f 0) (first : gotBy n b ≡ readFrom a (countAt 1 32 f)) (second : gotBy m c ≡ readFrom b (countAt 1 32 f)) (third : gotBy rounds d ≡ readFrom c (countAt 1 16 f))
-    (head : gotBy begin e₁ ≡ readFrom d (setAt 4 m f)) (aim : gotBy goal g ≡ readFrom e₁ (setAt 4 m f)) (entries : rowsOf true n rows ≡ readFrom g (eachAt (entryAt spots fitting m) (upFrom n 0) f)) where
+    (head : gotBy begin e₁ ≡ readFrom d (setAt 4 m f)) (aim : gotBy goal g ≡ readFrom e₁ (setAt 4 m f)) (each : recordsOf Fitting n found ≡ readFrom g (eachAt (recordAt spots fitting m) (upFrom n 0) f)) where
   fittingJob : Job Spot
-  fittingJob = record { kind = 70; counts = n ∷ m ∷ rounds ∷ []; heads = begin ∷ goal ∷ []; entries = held true n rows }
+  fittingJob = record { kind = 70; counts = n ∷ m ∷ rounds ∷ []; heads = begin ∷ goal ∷ []; records = held Fitting n found }
 
-  fitting-read : ended fittingJob (length f) (finished (length f) (rows .next)) ≡ read spots fittings f
-  unfolding fittingJob fitting layoutOf
+  fitting-read : ended fittingJob (length f) (finished (length f) (found .next)) ≡ read spots fittings f
+  unfolding fittingJob choice fitting kinds layoutIn
   fitting-read =
-      file-is spots fittings f 70 fittingJob a (rows .next) kind
-      (body-is spots fitting f (n ∷ m ∷ rounds ∷ []) (begin ∷ goal ∷ []) (held true n rows) d g (rows .next) a
+      file-is spots fittings f 70 fitting fittingJob a (found .next) kind refl
+      (body-is spots fitting f (n ∷ m ∷ rounds ∷ []) (begin ∷ goal ∷ []) (held Fitting n found) d g (found .next) a
       (each-more (λ c. countAt (c .bytes) (c .limit)) f (record { bytes = 1; limit = 32 }) (record { bytes = 1; limit = 32 } ∷ record { bytes = 1; limit = 16 } ∷ []) n (m ∷ rounds ∷ []) b d a first
       (each-more (λ c. countAt (c .bytes) (c .limit)) f (record { bytes = 1; limit = 32 }) (record { bytes = 1; limit = 16 } ∷ []) m (rounds ∷ []) c d b second
       (each-more (λ c. countAt (c .bytes) (c .limit)) f (record { bytes = 1; limit = 16 }) [] rounds [] d d c third (each-none (λ c. countAt (c .bytes) (c .limit)) f d))))
       (each-more (λ bytes. setAt bytes m) f 4 (4 ∷ []) begin (goal ∷ []) e₁ g d head
       (each-more (λ bytes. setAt bytes m) f 4 [] goal [] g g e₁ aim (each-none (λ bytes. setAt bytes m) f g)))
-      entries)
+      each)
 
-  pub fitting-refused : {end : Cursor} {r : Refusal} {x : ReadFitting} → end ≡ finished (length f) (rows .next) → end ≡ Cursor.Refused r → x ≡ fittingOf (refused (r .reason) (r .place))
+  pub fitting-refused : {end : Cursor} {r : Refusal} {x : ReadFitting} → end ≡ finished (length f) (found .next) → end ≡ Cursor.Refused r → x ≡ fittingOf (refused (r .reason) (r .place))
       → (x ≡ fittingOf (read spots fittings f)) × FittingBounds f x
   fitting-refused {end} {r} {x} e q h =
-      let told = end-refused fittingJob f (rows .next) e fitting-read q in
+      let told = end-refused fittingJob f (found .next) e fitting-read q in
       (h ∙ ap fittingOf told, rw h (zero-le, zero-le, zero-le, within-none (length f), subst (Few 32) told tt))
 
-  pub fitting-accepted : {end : Cursor} {at : ℕ} → end ≡ finished (length f) (rows .next) → end ≡ Cursor.At at → n ≤ 32 → m ≤ 32 → rounds ≤ 16 → Columns true n (length f) rows
-      → let x : ReadFitting = record { verdict = Verdict.Accepted; steps = n; facts = m; horizon = rounds; start = begin; goal = goal; needs = rows .first; gives = rows .second; takes = rows .third; starts = rows .starts; lens = rows .lens } in
+  pub fitting-accepted : {end : Cursor} {at : ℕ} → end ≡ finished (length f) (found .next) → end ≡ Cursor.At at → n ≤ 32 → m ≤ 32 → rounds ≤ 16 → Columns Fitting n (length f) found
+      → let x : ReadFitting = record { verdict = Verdict.Accepted; steps = n; facts = m; horizon = rounds; start = begin; goal = goal; needs = found .first; gives = found .second; takes = found .third; starts = found .starts; lens = found .lens } in
       (x ≡ fittingOf (read spots fittings f)) × FittingBounds f x
   unfolding fittingJob
   fitting-accepted {end} {at} e q ln lm lr ok =
-      let told = end-reached fittingJob f (rows .next) e fitting-read q in
-      let from = entryFrom true (rows .first) (rows .second) (rows .third) (rows .starts) (rows .lens) in
+      let told = end-reached fittingJob f (found .next) e fitting-read q in
+      let from = recordFrom Fitting (found .first) (found .second) (found .third) (found .starts) (found .lens) in
       let room : n ≤ 64 = omega arith in
-      let one = column-is n (rows .first) (ok .first) room from (λ e. getD (e .sets) 0 0) (λ i. refl) in
-      let two = column-is n (rows .second) (ok .second) room from (λ e. getD (e .sets) 1 0) (λ i. refl) in
-      let three = column-is n (rows .third) (ok .third) room from (λ e. getD (e .sets) 2 0) (λ i. refl) in
-      let starts = column-is n (rows .starts) (ok .starts) room from (λ e. e .name .start) (λ i. refl) in
-      let lens = column-is n (rows .lens) (ok .lens) room from (λ e. e .name .len) (λ i. refl) in (
-        ap (λ (l : List ℕ). record { verdict = Verdict.Accepted; steps = n; facts = m; horizon = rounds; start = begin; goal = goal; needs = l; gives = rows .second; takes = rows .third; starts = rows .starts; lens = rows .lens }) one
-            ∙ ap (λ (l : List ℕ). record { verdict = Verdict.Accepted; steps = n; facts = m; horizon = rounds; start = begin; goal = goal; needs = padded 64 (needs fittingJob); gives = l; takes = rows .third; starts = rows .starts; lens = rows .lens }) two
-            ∙ ap (λ (l : List ℕ). record { verdict = Verdict.Accepted; steps = n; facts = m; horizon = rounds; start = begin; goal = goal; needs = padded 64 (needs fittingJob); gives = padded 64 (gives fittingJob); takes = l; starts = rows .starts; lens = rows .lens }) three
-            ∙ ap (λ (l : List ℕ). record { verdict = Verdict.Accepted; steps = n; facts = m; horizon = rounds; start = begin; goal = goal; needs = padded 64 (needs fittingJob); gives = padded 64 (gives fittingJob); takes = padded 64 (takes fittingJob); starts = l; lens = rows .lens }) starts
-            ∙ ap (λ (l : List ℕ). record { verdict = Verdict.Accepted; steps = n; facts = m; horizon = rounds; start = begin; goal = goal; needs = padded 64 (needs fittingJob); gives = padded 64 (gives fittingJob); takes = padded 64 (takes fittingJob); starts = padded 64 (startsOf (fittingJob .entries)); lens = l }) lens
+      let one = column-is n (found .first) (ok .first) room from (λ r. getD (r .before) 0 0) (λ i. refl) in
+      let two = column-is n (found .second) (ok .second) room from (λ r. getD (r .before) 1 0) (λ i. refl) in
+      let three = column-is n (found .third) (ok .third) room from (λ r. getD (r .before) 2 0) (λ i. refl) in
+      let starts = column-is n (found .starts) (ok .starts) room from (λ r. r .name .start) (λ i. refl) in
+      let lens = column-is n (found .lens) (ok .lens) room from (λ r. r .name .len) (λ i. refl) in (
+        ap (λ (l : List ℕ). record { verdict = Verdict.Accepted; steps = n; facts = m; horizon = rounds; start = begin; goal = goal; needs = l; gives = found .second; takes = found .third; starts = found .starts; lens = found .lens }) one
+            ∙ ap (λ (l : List ℕ). record { verdict = Verdict.Accepted; steps = n; facts = m; horizon = rounds; start = begin; goal = goal; needs = padded 64 (needs fittingJob); gives = l; takes = found .third; starts = found .starts; lens = found .lens }) two
+            ∙ ap (λ (l : List ℕ). record { verdict = Verdict.Accepted; steps = n; facts = m; horizon = rounds; start = begin; goal = goal; needs = padded 64 (needs fittingJob); gives = padded 64 (gives fittingJob); takes = l; starts = found .starts; lens = found .lens }) three
+            ∙ ap (λ (l : List ℕ). record { verdict = Verdict.Accepted; steps = n; facts = m; horizon = rounds; start = begin; goal = goal; needs = padded 64 (needs fittingJob); gives = padded 64 (gives fittingJob); takes = padded 64 (takes fittingJob); starts = l; lens = found .lens }) starts
+            ∙ ap (λ (l : List ℕ). record { verdict = Verdict.Accepted; steps = n; facts = m; horizon = rounds; start = begin; goal = goal; needs = padded 64 (needs fittingJob); gives = padded 64 (gives fittingJob); takes = padded 64 (takes fittingJob); starts = padded 64 (startsOf (fittingJob .records)); lens = l }) lens
             ∙ ap fittingOf told,
-        (ln, lm, lr, λ i. tidy-within true (length f) 0 _ _ (ok .tidy i), subst (Few 32) told (list-length n from, ln)),
+        (ln, lm, lr, λ i. tidy-within Fitting (length f) 0 _ _ (ok .tidy i), subst (Few 32) told (list-length n from, ln)),
       )
 
 -- ---- names of either kind
@@ -172,7 +174,7 @@ unfolding kindAt
 kind-by takes takes′ f e = rw e
 
 read-by : {N : Type 0} (names : Naming N) (takes takes′ : ℕ → Bool) (f : List ℕ) → takes (getD f 0 0) ≡ takes′ (getD f 0 0) → read names takes f ≡ read names takes′ f
-unfolding read
+unfolding read layoutAt
 read-by names takes takes′ f e = rw (kind-by takes takes′ f e)
 
 pub either-fitting : {N : Type 0} (names : Naming N) (f : List ℕ) → eqb (getD f 0 0) 70 ≡ true → read names either f ≡ read names fittings f
@@ -194,36 +196,36 @@ pub spot-past : (starts lens : List ℕ) (i : ℕ) → length starts ≡ 64 → 
 spot-past starts lens i p q h = rw (List·getD-eq-default starts 0 {n = i} (omega arith), List·getD-eq-default lens 0 {n = i} (omega arith))
 
 -- the columns of names hold the spots
-start-at : (entries : List (Entry Spot)) (i : ℕ) → getD (startsOf entries) i 0 ≡ getD (namesOf entries) i (spots .absent) .start
+start-at : (records : List (Record Spot)) (i : ℕ) → getD (startsOf records) i 0 ≡ getD (namesOf records) i (spots .absent) .start
 start-at [] i = refl
-start-at (e ∷ es) zero = refl
-start-at (e ∷ es) (suc i) = start-at es i
+start-at (r ∷ rs) zero = refl
+start-at (r ∷ rs) (suc i) = start-at rs i
 
-len-at : (entries : List (Entry Spot)) (i : ℕ) → getD (lensOf entries) i 0 ≡ getD (namesOf entries) i (spots .absent) .len
+len-at : (records : List (Record Spot)) (i : ℕ) → getD (lensOf records) i 0 ≡ getD (namesOf records) i (spots .absent) .len
 len-at [] i = refl
-len-at (e ∷ es) zero = refl
-len-at (e ∷ es) (suc i) = len-at es i
+len-at (r ∷ rs) zero = refl
+len-at (r ∷ rs) (suc i) = len-at rs i
 
-length-names : (entries : List (Entry Spot)) → length (namesOf entries) ≡ length entries
+length-names : (records : List (Record Spot)) → length (namesOf records) ≡ length records
 length-names [] = refl
-length-names (e ∷ es) = ap suc (length-names es)
+length-names (r ∷ rs) = ap suc (length-names rs)
 
-spot-at : (entries : List (Entry Spot)) → length entries ≤ 64 → (i : ℕ) → spotOf (padded 64 (startsOf entries)) (padded 64 (lensOf entries)) i ≡ getD (namesOf entries) i (spots .absent)
-spot-at entries few i = go (decLt i 64)
+spot-at : (records : List (Record Spot)) → length records ≤ 64 → (i : ℕ) → spotOf (padded 64 (startsOf records)) (padded 64 (lensOf records)) i ≡ getD (namesOf records) i (spots .absent)
+spot-at records few i = go (decLt i 64)
   where
-    both : (s l : ℕ) → s ≡ getD (namesOf entries) i (spots .absent) .start → l ≡ getD (namesOf entries) i (spots .absent) .len → record { start = s; len = l } ≡ getD (namesOf entries) i (spots .absent)
+    both : (s l : ℕ) → s ≡ getD (namesOf records) i (spots .absent) .start → l ≡ getD (namesOf records) i (spots .absent) .len → record { start = s; len = l } ≡ getD (namesOf records) i (spots .absent)
     both s l p q = rw (p, q)
 
-    go : Dec (i < 64) → spotOf (padded 64 (startsOf entries)) (padded 64 (lensOf entries)) i ≡ getD (namesOf entries) i (spots .absent)
-    go (yes h) = both _ _ (list-at 64 (λ j. getD (startsOf entries) j 0) 0 i h ∙ start-at entries i) (list-at 64 (λ j. getD (lensOf entries) j 0) 0 i h ∙ len-at entries i)
+    go : Dec (i < 64) → spotOf (padded 64 (startsOf records)) (padded 64 (lensOf records)) i ≡ getD (namesOf records) i (spots .absent)
+    go (yes h) = both _ _ (list-at 64 (λ j. getD (startsOf records) j 0) 0 i h ∙ start-at records i) (list-at 64 (λ j. getD (lensOf records) j 0) 0 i h ∙ len-at records i)
     go (no h) =
-        let none = List·getD-eq-default (namesOf entries) (spots .absent) {n = i} (omega (arith, length-names entries)) in
-        both _ _ (list-past 64 (λ j. getD (startsOf entries) j 0) 0 i (omega arith) ∙ sym (ap (λ (s : Spot). s .start) none)) (list-past 64 (λ j. getD (lensOf entries) j 0) 0 i (omega arith) ∙ sym (ap (λ (s : Spot). s .len) none))
+        let none = List·getD-eq-default (namesOf records) (spots .absent) {n = i} (omega (arith, length-names records)) in
+        both _ _ (list-past 64 (λ j. getD (startsOf records) j 0) 0 i (omega arith) ∙ sym (ap (λ (s : Spot). s .start) none)) (list-past 64 (λ j. getD (lensOf records) j 0) 0 i (omega arith) ∙ sym (ap (λ (s : Spot). s .len) none))
 
 pub choice-spot : (g : Got (Job Spot)) → Few 64 g → (i : ℕ) → spotOf (choiceOf g .starts) (choiceOf g .lens) i ≡ spotIn g i
 choice-spot (refused reason place) few i = spot-at [] zero-le i
-choice-spot (got job end) few i = spot-at (job .entries) (omega (arith, few .0, few .1)) i
+choice-spot (got job end) few i = spot-at (job .records) (omega (arith, few .0, few .1)) i
 
 pub fitting-spot : (g : Got (Job Spot)) → Few 32 g → (i : ℕ) → spotOf (fittingOf g .starts) (fittingOf g .lens) i ≡ spotIn g i
 fitting-spot (refused reason place) few i = spot-at [] zero-le i
-fitting-spot (got job end) few i = spot-at (job .entries) (omega (arith, few .0, few .1)) i
+fitting-spot (got job end) few i = spot-at (job .records) (omega (arith, few .0, few .1)) i

@@ -1,14 +1,14 @@
 -- What the answers of the code mean.
 use mathlib.Core.Path.{_≡_}
-use mathlib.Core.Bool.{Bool, true, false}
 use mathlib.Core.List.{List, [], _∷_, map}
 use Prim.Native.Nat.{ℕ, _+_, _≤_}
 use lib.ListN.{length, getD}
 use Rattle.sets.specs.Ranges.{listTo}
 use Rattle.reading.specs.declared.Spot.{Spot}
-use Rattle.reading.specs.declared.item.Cursor.the-variants as Cursor
-use Rattle.jobfile.specs.declared.entry.Row.{Row}
-use Rattle.jobfile.specs.declared.entry.Rows.{Rows}
+use Rattle.jobfile.specs.declared.records.Kind.{Kind}
+use Rattle.jobfile.specs.declared.records.Kind.the-variants.{Choice, Fitting}
+use Rattle.jobfile.specs.declared.records.Record as Found
+use Rattle.jobfile.specs.declared.records.Records.{Records}
 use Rattle.reading.specs.Got.{Got, got, refused}
 use Rattle.reading.specs.Cursors.{gotBy}
 use Rattle.jobfile.specs.Layout.{Layout, choice, fitting}
@@ -18,46 +18,46 @@ use Rattle.jobfile.specs.declared.ReadChoice.{ReadChoice}
 use Rattle.jobfile.specs.declared.ReadFitting.{ReadFitting}
 use Rattle.reading.specs.Items.{spots}
 use Rattle.jobfile.specs.Read.{read, choices, fittings}
-use Rattle.jobfile.specs.Job.{Entry, Job, namesOf, size, wishCount, order, wishes, clashes, factCount, horizon, start, goal, needs, gives, takes}
+use Rattle.jobfile.specs.Job.{Record, Job, namesOf, size, wishCount, order, wishes, clashes, factCount, horizon, start, goal, needs, gives, takes}
 
--- ---- records: of a fitting file, or of a choice file
+-- ---- records, by the kind of their file
 
-abbrev pub layoutBy : Bool → Layout
-layoutBy true = fitting
-layoutBy false = choice
+abbrev pub layoutBy : Kind → Layout
+layoutBy Choice = choice
+layoutBy Fitting = fitting
 
-abbrev pub setsBy : Bool → ℕ → ℕ → ℕ → List ℕ
-setsBy true a b c = a ∷ b ∷ c ∷ []
-setsBy false a b c = a ∷ b ∷ []
+abbrev pub setsBy : Kind → ℕ → ℕ → ℕ → List ℕ
+setsBy Choice a b c = a ∷ b ∷ []
+setsBy Fitting a b c = a ∷ b ∷ c ∷ []
 
-abbrev pub entryOf : Bool → Row → Got (Entry Spot)
-entryOf fit r = gotBy (record { sets = setsBy fit (r .first) (r .second) (r .third); name = r .spot }) (r .next)
+abbrev pub recordOf : Kind → Found.Record → Got (Record Spot)
+recordOf kind r = gotBy (record { before = setsBy kind (r .first) (r .second) (r .third); name = r .spot; after = [] }) (r .next)
 
 -- a record of a choice has no third set, and a name stands within its file
-abbrev pub Tidy : Bool → ℕ → ℕ → ℕ → ℕ → Type 0
-Tidy true size third start len = start + len ≤ size
-Tidy false size third start len = (third ≡ 0) × (start + len ≤ size)
+abbrev pub Tidy : Kind → ℕ → ℕ → ℕ → ℕ → Type 0
+Tidy Choice size third start len = (third ≡ 0) × (start + len ≤ size)
+Tidy Fitting size third start len = start + len ≤ size
 
 -- record i of the columns
-abbrev pub entryFrom : Bool → List ℕ → List ℕ → List ℕ → List ℕ → List ℕ → ℕ → Entry Spot
-entryFrom fit first second third starts lens i =
-    record { sets = setsBy fit (getD first i 0) (getD second i 0) (getD third i 0); name = record { start = getD starts i 0; len = getD lens i 0 } }
+abbrev pub recordFrom : Kind → List ℕ → List ℕ → List ℕ → List ℕ → List ℕ → ℕ → Record Spot
+recordFrom kind first second third starts lens i =
+    record { before = setsBy kind (getD first i 0) (getD second i 0) (getD third i 0); name = record { start = getD starts i 0; len = getD lens i 0 }; after = [] }
 
-abbrev pub rowsOf : Bool → ℕ → Rows → Got (List (Entry Spot))
-rowsOf fit n r = gotBy (listTo n (entryFrom fit (r .first) (r .second) (r .third) (r .starts) (r .lens))) (r .next)
+abbrev pub recordsOf : Kind → ℕ → Records → Got (List (Record Spot))
+recordsOf kind n r = gotBy (listTo n (recordFrom kind (r .first) (r .second) (r .third) (r .starts) (r .lens))) (r .next)
 
 -- the columns have 64 elements, 0 from n on, a choice has no third set, and names stand within the file
 pub record Column (n : ℕ) (l : List ℕ) : Type 0 where
   pub size : length l ≡ 64
   pub past : (i : ℕ) → n ≤ i → getD l i 0 ≡ 0
 
-pub record Columns (fit : Bool) (n size : ℕ) (r : Rows) : Type 0 where
+pub record Columns (kind : Kind) (n size : ℕ) (r : Records) : Type 0 where
   pub first : Column n (r .first)
   pub second : Column n (r .second)
   pub third : Column n (r .third)
   pub starts : Column n (r .starts)
   pub lens : Column n (r .lens)
-  pub tidy : (i : ℕ) → Tidy fit size (getD (r .third) i 0) (getD (r .starts) i 0) (getD (r .lens) i 0)
+  pub tidy : (i : ℕ) → Tidy kind size (getD (r .third) i 0) (getD (r .starts) i 0) (getD (r .lens) i 0)
 
 -- ---- files
 
@@ -65,11 +65,11 @@ pub record Columns (fit : Bool) (n size : ℕ) (r : Rows) : Type 0 where
 abbrev pub padded : ℕ → List ℕ → List ℕ
 padded size l = listTo size (λ i. getD l i 0)
 
-abbrev pub startsOf : List (Entry Spot) → List ℕ
-startsOf entries = map (λ e. e .name .start) entries
+abbrev pub startsOf : List (Record Spot) → List ℕ
+startsOf records = map (λ r. r .name .start) records
 
-abbrev pub lensOf : List (Entry Spot) → List ℕ
-lensOf entries = map (λ e. e .name .len) entries
+abbrev pub lensOf : List (Record Spot) → List ℕ
+lensOf records = map (λ r. r .name .len) records
 
 -- a choice file as read: the job that it states, with the spots of its names, or the refusal and nothing else
 abbrev pub choiceOf : Got (Job Spot) → ReadChoice
@@ -90,8 +90,8 @@ choiceOf (got job end) = record {
   order = order job;
   wishes = padded 64 (wishes job);
   clashes = padded 64 (clashes job);
-  starts = padded 64 (startsOf (job .entries));
-  lens = padded 64 (lensOf (job .entries));
+  starts = padded 64 (startsOf (job .records));
+  lens = padded 64 (lensOf (job .records));
 }
 
 abbrev pub fittingOf : Got (Job Spot) → ReadFitting
@@ -118,14 +118,14 @@ fittingOf (got job end) = record {
   needs = padded 64 (needs job);
   gives = padded 64 (gives job);
   takes = padded 64 (takes job);
-  starts = padded 64 (startsOf (job .entries));
-  lens = padded 64 (lensOf (job .entries));
+  starts = padded 64 (startsOf (job .records));
+  lens = padded 64 (lensOf (job .records));
 }
 
 -- as many records as are counted, and no more than a limit
 abbrev pub Few : ℕ → Got (Job Spot) → Type 0
 Few limit (refused reason place) = Unit {0}
-Few limit (got job end) = (length (job .entries) ≡ size job) × (size job ≤ limit)
+Few limit (got job end) = (length (job .records) ≡ size job) × (size job ≤ limit)
 
 -- every name stands within a file of this length
 abbrev pub Within : ℕ → List ℕ → List ℕ → Type 0
@@ -138,12 +138,12 @@ spotOf starts lens i = record { start = getD starts i 0; len = getD lens i 0 }
 -- where the name of record i stands: nowhere for a refused file, an absent number or no name
 abbrev pub spotIn : Got (Job Spot) → ℕ → Spot
 spotIn (refused reason place) i = record { start = 0; len = 0 }
-spotIn (got job end) i = getD (namesOf (job .entries)) i (record { start = 0; len = 0 })
+spotIn (got job end) i = getD (namesOf (job .records)) i (record { start = 0; len = 0 })
 
 -- the name of record i: empty for a refused file, an absent number or no name
 abbrev pub nameIn : Got (Job (List ℕ)) → ℕ → List ℕ
 nameIn (refused reason place) i = []
-nameIn (got job end) i = getD (namesOf (job .entries)) i []
+nameIn (got job end) i = getD (namesOf (job .records)) i []
 
 -- what a reader keeps to beside its equation: the limits, and names within the file
 abbrev pub ChoiceBounds : List ℕ → ReadChoice → Type 0

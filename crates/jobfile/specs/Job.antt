@@ -1,26 +1,27 @@
--- The job that a file states (docs/RULES.md, "Job files"): its kind, its counts with the horizon, its sets, and its names.
--- N is what a name is taken for; in the job itself it is a list of bytes. What a file leaves out is the empty set, or no name.
+-- The job that a file states (docs/RULES.md, "Job files"): its kind, its counts with the horizon, its sets, and its records.
+-- N is what a name is taken for; in the job itself it is a list of bytes. What a file leaves out is the empty set, no amount, or no name.
 use mathlib.Core.List.{List, map}
 use Prim.Native.Nat.{ℕ}
 use lib.ListN.{getD}
 
--- what a record states: its sets in the order of their bits, and its name
-pub record Entry (N : Type 0) : Type 0 where
-  pub sets : List ℕ
+-- what a record states: its fields before the name in the order of their bits, its name, and its fields after the name
+pub record Record (N : Type 0) : Type 0 where
+  pub before : List ℕ
   pub name : N
+  pub after : List ℕ
 
 pub record Job (N : Type 0) : Type 0 where
   pub kind : ℕ
   pub counts : List ℕ
   pub heads : List ℕ
-  pub entries : List (Entry N)
+  pub records : List (Record N)
 
--- set k of each record, and the name of each record
-abbrev pub column : {N : Type 0} → ℕ → List (Entry N) → List ℕ
-column k entries = map (λ e. getD (e .sets) k 0) entries
+-- field k of each record, of those before the name; and the name of each record
+abbrev pub column : {N : Type 0} → ℕ → List (Record N) → List ℕ
+column k records = map (λ r. getD (r .before) k 0) records
 
-abbrev pub namesOf : {N : Type 0} → List (Entry N) → List N
-namesOf entries = map (λ e. e .name) entries
+abbrev pub namesOf : {N : Type 0} → List (Record N) → List N
+namesOf records = map (λ r. r .name) records
 
 -- ---- the parts of a job by the names of the rules
 
@@ -36,10 +37,10 @@ abbrev pub order : {N : Type 0} → Job N → ℕ
 order job = getD (job .heads) 0 0
 
 abbrev pub wishes : {N : Type 0} → Job N → List ℕ
-wishes job = column 0 (job .entries)
+wishes job = column 0 (job .records)
 
 abbrev pub clashes : {N : Type 0} → Job N → List ℕ
-clashes job = column 1 (job .entries)
+clashes job = column 1 (job .records)
 
 -- of a fitting
 abbrev pub factCount : {N : Type 0} → Job N → ℕ
@@ -55,10 +56,10 @@ abbrev pub goal : {N : Type 0} → Job N → ℕ
 goal job = getD (job .heads) 1 0
 
 abbrev pub needs : {N : Type 0} → Job N → List ℕ
-needs job = column 0 (job .entries)
+needs job = column 0 (job .records)
 
 abbrev pub gives : {N : Type 0} → Job N → List ℕ
-gives job = column 1 (job .entries)
+gives job = column 1 (job .records)
 
 abbrev pub takes : {N : Type 0} → Job N → List ℕ
-takes job = column 2 (job .entries)
+takes job = column 2 (job .records)

@@ -1,9 +1,11 @@
--- The two kinds of files as tables (docs/RULES.md, "Job files"). A file is: its kind; then counts; then sets; then a record for each article or
--- step, which is a bit map and those of its fields that the map marks: sets, and behind them a name.
-use mathlib.Core.Bool.{cond}
+-- The kinds of files as tables (docs/RULES.md, "Job files"). A file is: its kind; then counts; then sets; then a record for each article or
+-- step, which is a bit map and those of its fields that the map marks, in the order of their bits: fields, a name, and fields after it.
+use mathlib.Core.Bool.{Bool, true, false, cond}
 use mathlib.Core.List.{List, [], _∷_}
-use Prim.Native.Nat.{ℕ}
+use mathlib.Core.Option.{Option, none, some}
+use Prim.Native.Nat.{ℕ, suc, _+_}
 use lib.Dec.{eqb}
+use lib.ListN.{length}
 
 -- a count: how many bytes it takes, and its limit
 pub record Count : Type 0 where
@@ -14,17 +16,30 @@ pub record Count : Type 0 where
 pub data Bound : Type 0 where
   counted own : Bound
 
--- a set in a record: how many bytes it takes, and its bound
-pub record SetField : Type 0 where
-  pub bytes : ℕ
-  pub bound : Bound
+-- a field of a record: a set of so many bytes, with the bound of its members; or an amount of so many bytes
+pub data Field : Type 0 where
+  set : ℕ → Bound → Field
+  amount : ℕ → Field
 
+abbrev pub width : Field → ℕ
+width (set bytes bound) = bytes
+width (amount bytes) = bytes
+
+-- the fields of a record before its name and after it, and the longest name
 pub record Layout : Type 0 where
   pub kind : ℕ
   pub counts : List Count
   pub heads : List ℕ
-  pub fields : List SetField
+  pub before : List Field
   pub longest : ℕ
+  pub after : List Field
+
+-- the bit of the name, and how many bits a map has
+abbrev pub nameBit : Layout → ℕ
+nameBit layout = length (layout .before)
+
+abbrev pub bits : Layout → ℕ
+bits layout = suc (length (layout .before) + length (layout .after))
 
 -- articles and wishes; the order; wishes and clashes with lower articles; a name of at most 32 bytes
 unfoldable pub choice : Layout
@@ -32,8 +47,9 @@ choice = record {
   kind = 67;
   counts = record { bytes = 1; limit = 64 } ∷ record { bytes = 1; limit = 64 } ∷ [];
   heads = 8 ∷ [];
-  fields = record { bytes = 8; bound = counted } ∷ record { bytes = 8; bound = own } ∷ [];
+  before = set 8 counted ∷ set 8 own ∷ [];
   longest = 32;
+  after = [];
 }
 
 -- steps, facts and the horizon; start and goal; needs, gives and takes; a name of at most 32 bytes
@@ -42,10 +58,27 @@ fitting = record {
   kind = 70;
   counts = record { bytes = 1; limit = 32 } ∷ record { bytes = 1; limit = 32 } ∷ record { bytes = 1; limit = 16 } ∷ [];
   heads = 4 ∷ 4 ∷ [];
-  fields = record { bytes = 4; bound = counted } ∷ record { bytes = 4; bound = counted } ∷ record { bytes = 4; bound = counted } ∷ [];
+  before = set 4 counted ∷ set 4 counted ∷ set 4 counted ∷ [];
   longest = 32;
+  after = [];
 }
 
--- the layout of a kind, of those that there are
-unfoldable pub layoutOf : ℕ → Layout
-layoutOf kind = cond (eqb kind 67) choice fitting
+-- the kinds that there are
+unfoldable pub kinds : List Layout
+kinds = choice ∷ fitting ∷ []
+
+-- the layout of a kind, of these layouts
+unfoldable pub layoutIn : List Layout → ℕ → Option Layout
+layoutIn [] kind = none
+layoutIn (layout ∷ layouts) kind = cond (eqb kind (layout .kind)) (some layout) (layoutIn layouts kind)
+
+abbrev pub layoutOf : ℕ → Option Layout
+layoutOf kind = layoutIn kinds kind
+
+-- whether there is such a kind
+abbrev pub isThere : Option Layout → Bool
+isThere none = false
+isThere (some layout) = true
+
+abbrev pub known : ℕ → Bool
+known kind = isThere (layoutOf kind)

@@ -1,4 +1,4 @@
--- Job files, in the order of docs/RULES.md: the layouts of the two kinds, the job that a file states, its reading, its writing, and which jobs
+-- Job files, in the order of docs/RULES.md: the layouts of the kinds, the job that a file states, its reading, its writing, and which jobs
 -- are valid; then what the answers of the code mean.
 pub mod Layout
 pub mod Job

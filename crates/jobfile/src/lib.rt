@@ -10,12 +10,13 @@ ghost use Rattle.reading.specs.Items.{spots};
 ghost use Rattle.jobfile.specs.Read.{read, choices, fittings, either};
 ghost use Rattle.jobfile.specs.Answers.{choiceOf, fittingOf, spotOf, spotIn, ChoiceBounds, FittingBounds};
 
-pub mod entry;
+pub mod records;
 
 use reading::Refusal;
 use reading::Spot;
 use reading::item;
 use reading::item::Cursor;
+use records::Kind;
 
 // Whether a file is accepted.
 pub enum Verdict {
@@ -100,16 +101,16 @@ pub fn read_choice(file: &[u8]) -> ReadChoice
     let w = counted.value as usize;
     let order = item::set(file, c, 8, w);
     let d = order.next;
-    let rows = entry::read_rows(file, d, false, w, n);
-    let e = rows.next;
+    let records = records::read_records(file, d, Kind::Choice, w, n);
+    let e = records.next;
     let end = item::finish(file, e);
     match end {
         Cursor::Refused(refusal) => no_choice(refusal),
         Cursor::At(_) => {
-            let wishes = rows.first;
-            let clashes = rows.second;
-            let starts = rows.starts;
-            let lens = rows.lens;
+            let wishes = records.first;
+            let clashes = records.second;
+            let starts = records.starts;
+            let lens = records.lens;
             ReadChoice {
                 verdict: Verdict::Accepted,
                 articles: n,
@@ -142,17 +143,17 @@ pub fn read_fitting(file: &[u8]) -> ReadFitting
     let e = start.next;
     let goal = item::set(file, e, 4, facts);
     let f = goal.next;
-    let rows = entry::read_rows(file, f, true, facts, n);
-    let g = rows.next;
+    let records = records::read_records(file, f, Kind::Fitting, facts, n);
+    let g = records.next;
     let end = item::finish(file, g);
     match end {
         Cursor::Refused(refusal) => no_fitting(refusal),
         Cursor::At(_) => {
-            let needs = rows.first;
-            let gives = rows.second;
-            let takes = rows.third;
-            let starts = rows.starts;
-            let lens = rows.lens;
+            let needs = records.first;
+            let gives = records.second;
+            let takes = records.third;
+            let starts = records.starts;
+            let lens = records.lens;
             ReadFitting {
                 verdict: Verdict::Accepted,
                 steps: n,

@@ -19,7 +19,7 @@ use Rattle.jobfile.specs.declared.Verdict.{Verdict}
 use Rattle.jobfile.specs.declared.Verdict.the-variants as Verdict
 use Rattle.jobfile.specs.Job.{Job, column, size, wishes, clashes}
 use Rattle.jobfile.specs.Answers.{choiceOf, Few}
-use Rattle.jobfile.proofs.NamingLaws.{entryBy, jobBy}
+use Rattle.jobfile.proofs.NamingLaws.{recordBy, jobBy}
 use Rattle.network.specs.Network.{Network, listed, networkOf}
 use Rattle.network.specs.Groups.{firstMisplaced}
 use Rattle.network.specs.Filter.{firstBad}
@@ -74,6 +74,6 @@ goals-passed order goals h a = at-passed (firstBad order goals) BadGoal passed h
 -- it is that of the job: zeros behind the articles are not looked at, nor is what names are taken for
 pub network-same : (f : List ℕ) (job : Job Spot) (end : ℕ) → Few 64 (got job end) → networkIn (choiceOf (got job end)) ≡ networkOf (jobBy f job)
 network-same f job end few =
-    let room : (k : ℕ) → length (column k (job .entries)) ≤ 64 = λ k. omega (arith, length-map (job .entries) (λ e. getD (e .sets) k 0), few .0, few .1) in
-    let same : (k : ℕ) → column k (jobBy f job .entries) ≡ column k (job .entries) = λ k. map-map (λ e. getD (e .sets) k 0) (entryBy f) (job .entries) in
+    let room : (k : ℕ) → length (column k (job .records)) ≤ 64 = λ k. omega (arith, length-map (job .records) (λ r. getD (r .before) k 0), few .0, few .1) in
+    let same : (k : ℕ) → column k (jobBy f job .records) ≡ column k (job .records) = λ k. map-map (λ r. getD (r .before) k 0) (recordBy f) (job .records) in
     padded-network (size job) 64 (wishes job) (clashes job) (room 0) (room 1) ∙ sym (ap₂ (listed (size job)) (same 0) (same 1))

@@ -33,9 +33,13 @@ mapAt fields = checked (leb (2 ^ fields)) ForbiddenBit (numberAt 1)
 unfoldable pub setAt : ℕ → ℕ → Reader ℕ
 setAt bytes limit = checked (leb (2 ^ limit)) AbsentMember (numberAt bytes)
 
--- reasons 5 and 6: such a set as a field of a record
+-- reason 5: an amount as a field of a record
+abbrev pub amountAt : ℕ → Reader ℕ
+amountAt bytes = checked (λ v. eqb v 0) EmptyField (numberAt bytes)
+
+-- reasons 5 and 6: a set whose members are below a limit, as a field of a record
 unfoldable pub fieldAt : ℕ → ℕ → Reader ℕ
-fieldAt bytes limit = checked (leb (2 ^ limit)) AbsentMember (checked (λ v. eqb v 0) EmptyField (numberAt bytes))
+fieldAt bytes limit = checked (leb (2 ^ limit)) AbsentMember (amountAt bytes)
 
 -- What a name is taken for: its bytes, as the job has it, or the spot where they stand, as the code does.
 pub record Naming (N : Type 0) : Type 0 where

@@ -1,5 +1,6 @@
 -- `jobfile::read_choice` meets its contract: the items that it reads are those of the definition, one behind the other.
 use borrow.Author.Needs.{needs}
+use native.Mathlib.Omega.{arith}
 use Rattle.jobfile.proofs.ReadLaws.{choice-refused, choice-accepted}
 use Rattle.jobfile.proofs.read_choice.Statement.{statement}
 use Rattle.jobfile.proofs.read_choice.Tie as tie
@@ -16,8 +17,8 @@ count-requires-2 c κs = search needs
 set-requires : tie.Need-set-requires
 set-requires c κs = search needs
 
-read-rows-requires : tie.Need-read-rows-requires
-read-rows-requires c κs = search needs
+read-records-requires : tie.Need-read-records-requires
+read-records-requires c κs = omega arith
 
 finish-requires : tie.Need-finish-requires
 finish-requires c κs = search needs
@@ -33,13 +34,13 @@ enum-told c = search needs
 
 returns : tie.Need-returns
 returns c =
-    choice-refused (c .before .before .before .before .before .before .before .before .before .before .before .args .file .now) (c .before .before .before .before .before .before .before .before .count .result .value) (c .before .before .before .before .before .before .before .count2 .result .value) (c .before .before .before .before .before .before .set .result .value) (c .before .before .before .before .before .read-rows .result) (c .before .before .before .before .before .before .before .before .before .kind .result) (c .before .before .before .before .before .before .before .before .count .result .next) (c .before .before .before .before .before .before .before .count2 .result .next) (c .before .before .before .before .before .before .set .result .next)
-    (c .before .before .before .before .before .before .before .before .before .kind .ensures) (c .before .before .before .before .before .before .before .before .count .ensures .0) (c .before .before .before .before .before .before .before .count2 .ensures .0) (c .before .before .before .before .before .before .set .ensures) (c .before .before .before .before .before .read-rows .ensures .0) (c .before .before .before .before .finish .ensures) (c .before .before .end .given .1) (c .no-choice .ensures)
+    choice-refused (c .before .before .before .before .before .before .before .before .before .before .before .args .file .now) (c .before .before .before .before .before .before .before .before .count .result .value) (c .before .before .before .before .before .before .before .count2 .result .value) (c .before .before .before .before .before .before .set .result .value) (c .before .before .before .before .before .read-records .result) (c .before .before .before .before .before .before .before .before .before .kind .result) (c .before .before .before .before .before .before .before .before .count .result .next) (c .before .before .before .before .before .before .before .count2 .result .next) (c .before .before .before .before .before .before .set .result .next)
+    (c .before .before .before .before .before .before .before .before .before .kind .ensures) (c .before .before .before .before .before .before .before .before .count .ensures .0) (c .before .before .before .before .before .before .before .count2 .ensures .0) (c .before .before .before .before .before .before .set .ensures) (c .before .before .before .before .before .read-records .ensures .0) (c .before .before .before .before .finish .ensures) (c .before .before .end .given .1) (c .no-choice .ensures)
 
 returns-2 : tie.Need-returns-2
 returns-2 c =
-    choice-accepted (c .before .before .before .before .before .before .before .before .before .before .before .before .before .args .file .now) (c .before .before .before .before .before .before .before .before .before .before .count .result .value) (c .before .before .before .before .before .before .before .before .before .count2 .result .value) (c .before .before .before .before .before .before .before .before .set .result .value) (c .before .before .before .before .before .before .before .read-rows .result) (c .before .before .before .before .before .before .before .before .before .before .before .kind .result) (c .before .before .before .before .before .before .before .before .before .before .count .result .next) (c .before .before .before .before .before .before .before .before .before .count2 .result .next) (c .before .before .before .before .before .before .before .before .set .result .next)
-    (c .before .before .before .before .before .before .before .before .before .before .before .kind .ensures) (c .before .before .before .before .before .before .before .before .before .before .count .ensures .0) (c .before .before .before .before .before .before .before .before .before .count2 .ensures .0) (c .before .before .before .before .before .before .before .before .set .ensures) (c .before .before .before .before .before .before .before .read-rows .ensures .0) (c .before .before .before .before .before .before .finish .ensures) (c .before .before .before .before .enum-told .given .1) (c .before .before .before .before .before .before .before .before .before .before .count .ensures .1) (c .before .before .before .before .before .before .before .before .before .count2 .ensures .1) (c .before .before .before .before .before .before .before .read-rows .ensures .1)
+    choice-accepted (c .before .before .before .before .before .before .before .before .before .before .before .before .before .args .file .now) (c .before .before .before .before .before .before .before .before .before .before .count .result .value) (c .before .before .before .before .before .before .before .before .before .count2 .result .value) (c .before .before .before .before .before .before .before .before .set .result .value) (c .before .before .before .before .before .before .before .read-records .result) (c .before .before .before .before .before .before .before .before .before .before .before .kind .result) (c .before .before .before .before .before .before .before .before .before .before .count .result .next) (c .before .before .before .before .before .before .before .before .before .count2 .result .next) (c .before .before .before .before .before .before .before .before .set .result .next)
+    (c .before .before .before .before .before .before .before .before .before .before .before .kind .ensures) (c .before .before .before .before .before .before .before .before .before .before .count .ensures .0) (c .before .before .before .before .before .before .before .before .before .count2 .ensures .0) (c .before .before .before .before .before .before .before .before .set .ensures) (c .before .before .before .before .before .before .before .read-records .ensures .0) (c .before .before .before .before .before .before .finish .ensures) (c .before .before .before .before .enum-told .given .1) (c .before .before .before .before .before .before .before .before .before .before .count .ensures .1) (c .before .before .before .before .before .before .before .before .before .count2 .ensures .1) (c .before .before .before .before .before .before .before .read-records .ensures .1)
 
 pub read-choice-spec : {M : Type 1} → statement M
 read-choice-spec =
@@ -49,7 +50,7 @@ read-choice-spec =
     count-requires
     count-requires-2
     set-requires
-    read-rows-requires
+    read-records-requires
     finish-requires
     enum-known-end
     no-choice-requires

@@ -2,6 +2,7 @@
 use borrow.Author.Needs.{needs}
 use mathlib.Core.Path.{_≡_}
 use lib.ListN.{length}
+use native.Mathlib.Omega.{arith}
 use Rattle.jobfile.proofs.ReadLaws.{spot-past}
 use Rattle.jobfile.proofs.spot_at.Statement.{statement}
 use Rattle.jobfile.proofs.spot_at.Tie as tie
@@ -11,7 +12,7 @@ returns c =
     let a = c .before .args in
     let p : length (a .t1) ≡ 64 = search needs in
     let q : length (a .t2) ≡ 64 = search needs in
-    spot-past (a .t1) (a .t2) (a .number) p q (c .if1 .taken)
+    spot-past (a .t1) (a .t2) (a .number) p q (omega (arith, c .if1 .taken))
 
 mul-t7 : tie.Need-mul-t7
 mul-t7 c = search needs

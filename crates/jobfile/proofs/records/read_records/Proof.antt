@@ -1,22 +1,22 @@
--- `jobfile::entry::read_rows` meets its contract. The invariant, `Filled`: the records read stand in the columns, and what is left is read from the cursor on.
+-- `jobfile::records::read_records` meets its contract. The invariant, `Filled`: the records read stand in the columns, and what is left is read from the cursor on.
 use borrow.Author.Needs.{needs}
 -- The measure is how many records are left.
 use Prim.Native.Nat.{_-_}
-use Rattle.jobfile.proofs.RowLaws.{Filled, rows-start, rows-turn, rows-end}
-use Rattle.jobfile.proofs.entry.read_rows.Statement.{statement}
-use Rattle.jobfile.proofs.entry.read_rows.Tie as tie
+use Rattle.jobfile.proofs.ColumnLaws.{Filled, records-start, records-turn, records-end}
+use Rattle.jobfile.proofs.records.read_records.Statement.{statement}
+use Rattle.jobfile.proofs.records.read_records.Tie as tie
 
 abbrev Inv-loop : tie.InvT-loop
-Inv-loop file fitting count n first₀ second₀ third₀ starts₀ lens₀ next₀ i₀ first second third starts lens next i = Filled file fitting count n next₀ first second third starts lens next i
+Inv-loop file kind count n first₀ second₀ third₀ starts₀ lens₀ next₀ i₀ first second third starts lens next i = Filled file kind count n next₀ first second third starts lens next i
 
 abbrev μ-loop : tie.MeasureT-loop
-μ-loop file fitting count n first₀ second₀ third₀ starts₀ lens₀ next₀ i₀ first second third starts lens next i = n - i
+μ-loop file kind count n first₀ second₀ third₀ starts₀ lens₀ next₀ i₀ first second third starts lens next i = n - i
 
 loop-holds : tie.Need-loop-holds Inv-loop μ-loop
-loop-holds c = rows-start (c .before .args .file .now) (c .before .args .fitting) (c .before .args .count) (c .before .args .n) (c .before .args .from)
+loop-holds c = records-start (c .before .args .file .now) (c .before .args .kind) (c .before .args .count) (c .before .args .n) (c .before .args .from)
 
-read-row-requires : tie.Need-read-row-requires Inv-loop μ-loop
-read-row-requires c κs = search needs
+read-record-requires : tie.Need-read-record-requires Inv-loop μ-loop
+read-record-requires c κs = search needs
 
 mul-first : tie.Need-mul-first Inv-loop μ-loop
 mul-first c = search needs
@@ -59,22 +59,22 @@ loop-again c =
     let a = c .before .before .before .before .before .args in
     let l = c .before .before .before .loop in
     let f = a .file .now in
-    rows-turn f (a .fitting) (a .count) (a .n) (a .from) (l .first) (l .second) (l .third) (l .starts) (l .lens) (l .next) (l .i) (c .before .read-row .result) (l .inv) (c .before .before .loop-test .taken) (c .before .before .before .before .before .pre) (c .before .read-row .ensures .0) (c .before .read-row .ensures .1)
+    records-turn f (a .kind) (a .count) (a .n) (a .from) (l .first) (l .second) (l .third) (l .starts) (l .lens) (l .next) (l .i) (c .before .read-record .result) (l .inv) (c .before .before .loop-test .taken) (c .before .before .before .before .before .pre) (c .before .read-record .ensures .0) (c .before .read-record .ensures .1)
 
 returns : tie.Need-returns Inv-loop μ-loop
 returns c =
     let a = c .before .before .before .args in
     let l = c .before .loop in
-    rows-end (a .file .now) (a .fitting) (a .count) (a .n) (a .from) (record { first = l .first; second = l .second; third = l .third; starts = l .starts; lens = l .lens; next = l .next }) (l .i) (l .inv) (c .loop-test .left)
+    records-end (a .file .now) (a .kind) (a .count) (a .n) (a .from) (record { first = l .first; second = l .second; third = l .third; starts = l .starts; lens = l .lens; next = l .next }) (l .i) (l .inv) (c .loop-test .left)
 
-pub read-rows-spec : {M : Type 1} → statement M
-read-rows-spec =
+pub read-records-spec : {M : Type 1} → statement M
+read-records-spec =
     tie.close
     (tie.spec
     Inv-loop
     μ-loop
     loop-holds
-    read-row-requires
+    read-record-requires
     mul-first
     array-write-first
     mul-second

@@ -1,7 +1,6 @@
 -- Reading records one by one into columns: what a loop has read, in front of what is left to read. Assumes nothing.
 use mathlib.Core.Path.{_≡_, refl, ap, sym, _∙_, subst}
 use mathlib.Core.Logic.{_≢_}
-use mathlib.Core.Bool.{Bool, true, false}
 use mathlib.Core.List.{List, [], _∷_, _++_, append-assoc, append-nil}
 use Prim.Native.Nat.{ℕ, suc, _+_, _-_, _≤_, _<_, zero-le}
 use native.Mathlib.Decide.{decLt, ℕ-discrete}
@@ -14,14 +13,16 @@ use Rattle.sets.proofs.Ranges.{list-cong, list-turn}
 use Rattle.reading.specs.declared.Spot.{Spot}
 use Rattle.reading.specs.declared.item.Cursor.{Cursor}
 use Rattle.reading.specs.declared.item.Cursor.the-variants as Cursor
-use Rattle.jobfile.specs.declared.entry.Row.{Row}
-use Rattle.jobfile.specs.declared.entry.Rows.{Rows}
+use Rattle.jobfile.specs.declared.records.Kind.{Kind}
+use Rattle.jobfile.specs.declared.records.Kind.the-variants.{Choice, Fitting}
+use Rattle.jobfile.specs.declared.records.Record as Found
+use Rattle.jobfile.specs.declared.records.Records.{Records}
 use Rattle.reading.specs.Got.{Got, got, refused, Reader, andThen, eachAt, upFrom}
 use Rattle.reading.specs.Items.{spots}
-use Rattle.jobfile.specs.Job.{Entry}
-use Rattle.jobfile.specs.Read.{entryAt}
+use Rattle.jobfile.specs.Job.{Record}
+use Rattle.jobfile.specs.Read.{recordAt}
 use Rattle.reading.specs.Cursors.{readFrom}
-use Rattle.jobfile.specs.Answers.{layoutBy, setsBy, entryOf, entryFrom, Tidy, rowsOf, Column, Columns}
+use Rattle.jobfile.specs.Answers.{layoutBy, setsBy, recordOf, recordFrom, Tidy, recordsOf, Column, Columns}
 use Rattle.reading.proofs.StepLaws.{and-assoc, settled, advance}
 
 -- ---- columns
@@ -50,32 +51,32 @@ same-from : {A : Type 0} (c : Cursor) (g h : ℕ → Got A) → ((n : ℕ) → g
 same-from (Cursor.At n) g h e = e n
 same-from (Cursor.Refused r) g h e = refl
 
-module _ (f : List ℕ) (fit : Bool) (count n : ℕ) (from : Cursor) where
-  abbrev pub item : ℕ → Reader (Entry Spot)
-  item = entryAt spots (layoutBy fit) count
+module _ (f : List ℕ) (kind : Kind) (count n : ℕ) (from : Cursor) where
+  abbrev pub item : ℕ → Reader (Record Spot)
+  item = recordAt spots (layoutBy kind) count
 
   -- the records from i on, behind those that the columns hold
-  abbrev pub rest : ℕ → List (Entry Spot) → ℕ → Got (List (Entry Spot))
+  abbrev pub rest : ℕ → List (Record Spot) → ℕ → Got (List (Record Spot))
   rest i done at = after done (eachAt item (upFrom (n - i) i) f at)
 
   -- the loop's invariant, where it is about to read record i
   pub record Filled (first second third starts lens : List ℕ) (next : Cursor) (i : ℕ) : Type 0 where
     pub upto : i ≤ n
-    pub read : readFrom from (eachAt item (upFrom n 0) f) ≡ readFrom next (rest i (listTo i (entryFrom fit first second third starts lens)))
+    pub read : readFrom from (eachAt item (upFrom n 0) f) ≡ readFrom next (rest i (listTo i (recordFrom kind first second third starts lens)))
     pub firsts : Column i first
     pub seconds : Column i second
     pub thirds : Column i third
     pub starting : Column i starts
     pub lengths : Column i lens
-    pub tidy : (j : ℕ) → Tidy fit (length f) (getD third j 0) (getD starts j 0) (getD lens j 0)
+    pub tidy : (j : ℕ) → Tidy kind (length f) (getD third j 0) (getD starts j 0) (getD lens j 0)
 
-  tidy-none : (size : ℕ) (b : Bool) → Tidy b size 0 0 0
-  tidy-none size true = zero-le
-  tidy-none size false = (refl, zero-le)
+  tidy-none : (size : ℕ) (k : Kind) → Tidy k size 0 0 0
+  tidy-none size Choice = (refl, zero-le)
+  tidy-none size Fitting = zero-le
 
-  pub rows-start : let zeros = replicate {A = ℕ} 64 0 in Filled zeros zeros zeros zeros zeros from 0
+  pub records-start : let zeros = replicate {A = ℕ} 64 0 in Filled zeros zeros zeros zeros zeros from 0
   unfolding listTo
-  rows-start = record {
+  records-start = record {
     upto = zero-le;
     read = same-from from (eachAt item (upFrom n 0) f) (rest 0 []) (λ at. let e : n ≡ n - 0 = omega arith in ap (λ (k : ℕ). eachAt item (upFrom k 0) f at) e ∙ whole (eachAt item (upFrom (n - 0) 0) f at));
     firsts = column-none;
@@ -83,18 +84,18 @@ module _ (f : List ℕ) (fit : Bool) (count n : ℕ) (from : Cursor) where
     thirds = column-none;
     starting = column-none;
     lengths = column-none;
-    tidy = λ j. rw (column-none .past j zero-le) (tidy-none (length f) fit);
+    tidy = λ j. rw (column-none .past j zero-le) (tidy-none (length f) kind);
   }
     where
-      whole : (r : Got (List (Entry Spot))) → r ≡ after [] r
+      whole : (r : Got (List (Record Spot))) → r ≡ after [] r
       whole (refused reason place) = refl
       whole (got xs b) = refl
 
-  pub rows-turn : (first second third starts lens : List ℕ) (next : Cursor) (i : ℕ) (r : Row) → Filled first second third starts lens next i → i < n → n ≤ 64
-      → entryOf fit r ≡ readFrom next (entryAt spots (layoutBy fit) count i f) → Tidy fit (length f) (r .third) (r .spot .start) (r .spot .len)
+  pub records-turn : (first second third starts lens : List ℕ) (next : Cursor) (i : ℕ) (r : Found.Record) → Filled first second third starts lens next i → i < n → n ≤ 64
+      → recordOf kind r ≡ readFrom next (recordAt spots (layoutBy kind) count i f) → Tidy kind (length f) (r .third) (r .spot .start) (r .spot .len)
       → Filled (set first i (r .first)) (set second i (r .second)) (set third i (r .third)) (set starts i (r .spot .start)) (set lens i (r .spot .len)) (r .next) (i + 1)
   unfolding eachAt upFrom
-  rows-turn first second third starts lens next i r so l room e t = record {
+  records-turn first second third starts lens next i r so l room e t = record {
     upto = omega arith;
     read = so .read ∙ advance y (r .next) next (item i f) _ (rest i old) e (λ at. split at) ∙ same-from (r .next) _ _ (λ at. consed old y (eachAt item (upFrom (n - (i + 1)) (suc i)) f at) ∙ onward at);
     firsts = column-set i first (r .first) (so .firsts);
@@ -105,14 +106,14 @@ module _ (f : List ℕ) (fit : Bool) (count n : ℕ) (from : Cursor) where
     tidy = λ j. tidied j (ℕ-discrete j i);
   }
     where
-      old : List (Entry Spot)
-      old = listTo i (entryFrom fit first second third starts lens)
+      old : List (Record Spot)
+      old = listTo i (recordFrom kind first second third starts lens)
 
-      new : ℕ → Entry Spot
-      new = entryFrom fit (set first i (r .first)) (set second i (r .second)) (set third i (r .third)) (set starts i (r .spot .start)) (set lens i (r .spot .len))
+      new : ℕ → Record Spot
+      new = recordFrom kind (set first i (r .first)) (set second i (r .second)) (set third i (r .third)) (set starts i (r .spot .start)) (set lens i (r .spot .len))
 
-      y : Entry Spot
-      y = record { sets = setsBy fit (r .first) (r .second) (r .third); name = r .spot }
+      y : Record Spot
+      y = record { before = setsBy kind (r .first) (r .second) (r .third); name = r .spot; after = [] }
 
       inside : (xs : List ℕ) → Column i xs → i < length xs
       inside xs c = omega (arith, c .size)
@@ -127,7 +128,7 @@ module _ (f : List ℕ) (fit : Bool) (count n : ℕ) (from : Cursor) where
             getD-set-same lens i (r .spot .len) 0 (inside lens (so .lengths)),
           )
 
-      other : (j : ℕ) → j ≢ i → new j ≡ entryFrom fit first second third starts lens j
+      other : (j : ℕ) → j ≢ i → new j ≡ recordFrom kind first second third starts lens j
       other j d =
           rw (
             getD-set-other first i j (r .first) 0 d,
@@ -139,8 +140,8 @@ module _ (f : List ℕ) (fit : Bool) (count n : ℕ) (from : Cursor) where
 
       grown : old ++ (y ∷ []) ≡ listTo (i + 1) new
       grown =
-          sym (list-turn i new ∙ ap (λ (x : Entry Spot). listTo i new ++ (x ∷ [])) here
-          ∙ ap (λ (l : List (Entry Spot)). l ++ (y ∷ [])) (list-cong i new (entryFrom fit first second third starts lens) (λ j h. other j (λ q. let z : ⊥ = omega arith in z))))
+          sym (list-turn i new ∙ ap (λ (x : Record Spot). listTo i new ++ (x ∷ [])) here
+          ∙ ap (λ (l : List (Record Spot)). l ++ (y ∷ [])) (list-cong i new (recordFrom kind first second third starts lens) (λ j h. other j (λ q. let z : ⊥ = omega arith in z))))
 
       split : (at : ℕ) → rest i old at ≡ andThen (item i f at) (λ x a. after old (andThen (eachAt item (upFrom (n - (i + 1)) (suc i)) f a) λ xs b. got (x ∷ xs) b))
       split at =
@@ -150,7 +151,7 @@ module _ (f : List ℕ) (fit : Bool) (count n : ℕ) (from : Cursor) where
       onward : (at : ℕ) → after (old ++ (y ∷ [])) (eachAt item (upFrom (n - (i + 1)) (suc i)) f at) ≡ rest (i + 1) (listTo (i + 1) new) at
       onward at = rw (grown, add-one i)
 
-      tidied : (j : ℕ) → Dec (j ≡ i) → Tidy fit (length f) (getD (set third i (r .third)) j 0) (getD (set starts i (r .spot .start)) j 0) (getD (set lens i (r .spot .len)) j 0)
+      tidied : (j : ℕ) → Dec (j ≡ i) → Tidy kind (length f) (getD (set third i (r .third)) j 0) (getD (set starts i (r .spot .start)) j 0) (getD (set lens i (r .spot .len)) j 0)
       tidied j (yes q) =
           rw (
             q,
@@ -161,12 +162,12 @@ module _ (f : List ℕ) (fit : Bool) (count n : ℕ) (from : Cursor) where
       tidied j (no d) =
           rw (getD-set-other third i j (r .third) 0 d, getD-set-other starts i j (r .spot .start) 0 d, getD-set-other lens i j (r .spot .len) 0 d) (so .tidy j)
 
-  pub rows-end : (r : Rows) (i : ℕ) → Filled (r .first) (r .second) (r .third) (r .starts) (r .lens) (r .next) i → n ≤ i
-      → (rowsOf fit n r ≡ readFrom from (eachAt (entryAt spots (layoutBy fit) count) (upFrom n 0) f)) × Columns fit n (length f) r
+  pub records-end : (r : Records) (i : ℕ) → Filled (r .first) (r .second) (r .third) (r .starts) (r .lens) (r .next) i → n ≤ i
+      → (recordsOf kind n r ≡ readFrom from (eachAt (recordAt spots (layoutBy kind) count) (upFrom n 0) f)) × Columns kind n (length f) r
   unfolding eachAt upFrom
-  rows-end r i so h =
+  records-end r i so h =
       let e : i ≡ n = omega (arith, so .upto) in
       let filled : Filled (r .first) (r .second) (r .third) (r .starts) (r .lens) (r .next) n = subst (λ (k : ℕ). Filled (r .first) (r .second) (r .third) (r .starts) (r .lens) (r .next) k) e so in (
-        sym (filled .read ∙ same-from (r .next) _ (λ at. got (listTo n (entryFrom fit (r .first) (r .second) (r .third) (r .starts) (r .lens))) at) (λ at. let k : n - n ≡ 0 = omega arith in rw k (rw append-nil)) ∙ settled _ (r .next)),
+        sym (filled .read ∙ same-from (r .next) _ (λ at. got (listTo n (recordFrom kind (r .first) (r .second) (r .third) (r .starts) (r .lens))) at) (λ at. let k : n - n ≡ 0 = omega arith in rw k (rw append-nil)) ∙ settled _ (r .next)),
         record { first = filled .firsts; second = filled .seconds; third = filled .thirds; starts = filled .starting; lens = filled .lengths; tidy = filled .tidy },
       )

@@ -1,0 +1,135 @@
+// The records of a job file. The records of every kind are read into one shape, and one loop reads all.
+ghost use mathlib.Core.Path.{_≡_};
+ghost use Prim.Native.Nat.{_+_, _≤_};
+ghost use lib.ListN.{length};
+ghost use Rattle.reading.specs.Got.{eachAt, upFrom};
+ghost use Rattle.reading.specs.Items.{spots};
+ghost use Rattle.jobfile.specs.Layout.{choice, fitting};
+ghost use Rattle.jobfile.specs.Read.{recordAt};
+ghost use Rattle.reading.specs.Cursors.{readFrom};
+ghost use Rattle.jobfile.specs.declared.records.Kind.the-variants as Kind;
+ghost use Rattle.jobfile.specs.Answers.{layoutBy, recordOf, Tidy, recordsOf, Columns};
+use reading::Spot;
+use reading::item;
+use reading::item::Cursor;
+use sets::word;
+
+// Which kind of file records are of.
+pub enum Kind {
+    Choice,
+    Fitting,
+}
+
+// A record as it is read: its sets in the order of their bits, the third 0 for an article, and its name.
+pub struct Record {
+    pub first: u64,
+    pub second: u64,
+    pub third: u64,
+    pub spot: Spot,
+    pub next: Cursor,
+}
+
+// The record of an article: wishes, clashes, name.
+fn article(file: &[u8], from: Cursor, count: usize, own: usize) -> Record
+    ensures { λ r. ⌜ recordOf Kind.Choice r ≡ readFrom from (recordAt spots choice count own (now (file .entry))) ⌝ }
+    ensures { λ r. ⌜ (r .third ≡ 0) × (r .spot .start + r .spot .len ≤ length (now (file .entry))) ⌝ }
+{
+    let map = item::bit_map(file, from, 3);
+    let m = map.value;
+    let a = map.next;
+    let wishes = item::field(file, a, word::bit_at(m, 0) == 1, 8, count);
+    let b = wishes.next;
+    let clashes = item::field(file, b, word::bit_at(m, 1) == 1, 8, own);
+    let c = clashes.next;
+    let named = item::name(file, c, word::bit_at(m, 2) == 1, 32);
+    let spot = named.spot;
+    let next = named.next;
+    Record {
+        first: wishes.value,
+        second: clashes.value,
+        third: 0,
+        spot,
+        next,
+    }
+}
+
+// The record of a step: needs, gives, takes, name.
+fn step(file: &[u8], from: Cursor, count: usize, own: usize) -> Record
+    ensures { λ r. ⌜ recordOf Kind.Fitting r ≡ readFrom from (recordAt spots fitting count own (now (file .entry))) ⌝ }
+    ensures { λ r. ⌜ r .spot .start + r .spot .len ≤ length (now (file .entry)) ⌝ }
+{
+    let map = item::bit_map(file, from, 4);
+    let m = map.value;
+    let a = map.next;
+    let needs = item::field(file, a, word::bit_at(m, 0) == 1, 4, count);
+    let b = needs.next;
+    let gives = item::field(file, b, word::bit_at(m, 1) == 1, 4, count);
+    let c = gives.next;
+    let takes = item::field(file, c, word::bit_at(m, 2) == 1, 4, count);
+    let d = takes.next;
+    let named = item::name(file, d, word::bit_at(m, 3) == 1, 32);
+    let spot = named.spot;
+    let next = named.next;
+    Record {
+        first: needs.value,
+        second: gives.value,
+        third: takes.value,
+        spot,
+        next,
+    }
+}
+
+// The record of any kind.
+fn read_record(file: &[u8], from: Cursor, kind: Kind, count: usize, own: usize) -> Record
+    ensures { λ r. ⌜ recordOf kind r ≡ readFrom from (recordAt spots (layoutBy kind) count own (now (file .entry))) ⌝ }
+    ensures { λ r. ⌜ Tidy kind (length (now (file .entry))) (r .third) (r .spot .start) (r .spot .len) ⌝ }
+{
+    match kind {
+        Kind::Choice => article(file, from, count, own),
+        Kind::Fitting => step(file, from, count, own),
+    }
+}
+
+// All records, a column for each set and for the places of the names.
+pub struct Records {
+    pub first: [u64; 64],
+    pub second: [u64; 64],
+    pub third: [u64; 64],
+    pub starts: [usize; 64],
+    pub lens: [usize; 64],
+    pub next: Cursor,
+}
+
+// The first n records.
+pub fn read_records(file: &[u8], from: Cursor, kind: Kind, count: usize, n: usize) -> Records
+    requires { ⌜ n ≤ 64 ⌝ }
+    ensures { λ r. ⌜ recordsOf kind n r ≡ readFrom from (eachAt (recordAt spots (layoutBy kind) count) (upFrom n 0) (now (file .entry))) ⌝ }
+    ensures { λ r. ⌜ Columns kind n (length (now (file .entry))) r ⌝ }
+{
+    let mut first = [0u64; 64];
+    let mut second = [0u64; 64];
+    let mut third = [0u64; 64];
+    let mut starts = [0usize; 64];
+    let mut lens = [0usize; 64];
+    let mut next = from;
+    let mut i: usize = 0;
+    while i < n {
+        let found = read_record(file, next, kind, count, i);
+        let spot = found.spot;
+        first[i] = found.first;
+        second[i] = found.second;
+        third[i] = found.third;
+        starts[i] = spot.start;
+        lens[i] = spot.len;
+        next = found.next;
+        i += 1;
+    }
+    Records {
+        first,
+        second,
+        third,
+        starts,
+        lens,
+        next,
+    }
+}
