@@ -20,7 +20,7 @@ use Rattle.jobfile.specs.declared.ReadFitting.{ReadFitting}
 use Rattle.jobfile.specs.Job.{Job, column, size, order, wishes, clashes}
 use Rattle.jobfile.specs.Answers.{choiceOf, fittingOf, spotOf, spotIn, Few, ChoiceBounds, FittingBounds}
 use Rattle.jobfile.specs.Read.{read, readJob, choices, fittings, either}
-use Rattle.jobfile.proofs.NamingLaws.{mapGot, bytesAt, entryBy, jobBy, names-same, read-same}
+use Rattle.jobfile.proofs.NamingLaws.{mapGot, bytesAt, recordBy, jobBy, names-same, read-same}
 use Rattle.jobfile.proofs.ReadLaws.{either-choice, either-fitting, choice-spot, fitting-spot}
 use Rattle.expansion.proofs.ReadLaws.{column-by, column-length}
 use Rattle.matching.specs.Same.{sameList, alike}
@@ -52,8 +52,8 @@ search-is : (f name : List ℕ) (takes : ℕ → Bool) (t : Taken (read spots ta
 search-is f name takes t n starts lens en h =
     ap (λ (o : Option ℕ). found o NameNotFound) (
     ap (λ (k : ℕ). lowestNamed name k (λ i. take (getD lens i 0) (drop (getD starts i 0) f))) en
-    ∙ search-cong name (size (t .job)) _ (λ i. getD (map (λ e. e .name) (map (entryBy f) (t .job .entries))) i [])
-    (λ i. ap (bytesAt f) (h i ∙ ap (λ x. spotIn x i) (t .is)) ∙ sym (names-same f (t .job .entries) i))
+    ∙ search-cong name (size (t .job)) _ (λ i. getD (map (λ r. r .name) (map (recordBy f) (t .job .records))) i [])
+    (λ i. ap (bytesAt f) (h i ∙ ap (λ x. spotIn x i) (t .is)) ∙ sym (names-same f (t .job .records) i))
     )
     ∙ sym (ap (λ g. onJob g (λ job. findIn job name)) (read-same f takes ∙ ap (mapGot (jobBy f)) (t .is)))
 
@@ -81,7 +81,7 @@ module _ (f name : List ℕ) {b : Bool} (kind : b ≡ eqb (getD f 0 0) 70) {s : 
 -- ---- comparing
 
 alike-by : (f f′ : List ℕ) (a b : Job Spot) → alike (jobBy f a) (jobBy f′ b) ≡ alike a b
-alike-by f f′ a b = rw (column-by f 0 (a .entries), column-by f 1 (a .entries), column-by f′ 0 (b .entries), column-by f′ 1 (b .entries))
+alike-by f f′ a b = rw (column-by f 0 (a .records), column-by f 1 (a .records), column-by f′ 0 (b .records), column-by f′ 1 (b .records))
 
 -- the test of the code, over arrays
 abbrev byArrays : ReadChoice → ReadChoice → Bool
@@ -93,8 +93,8 @@ alike-is a b m n fa fb = go (eqb (size a) (size b)) refl
     go : (t : Bool) → eqb (size a) (size b) ≡ t → byArrays (choiceOf (got a m)) (choiceOf (got b n)) ≡ alike a b
     go true e =
         let same = eqb-true (size a) (size b) e in
-        let lengths : (k : ℕ) → length (column k (a .entries)) ≡ length (column k (b .entries)) = λ k. column-length k (a .entries) ∙ fa .0 ∙ same ∙ sym (fb .0) ∙ sym (column-length k (b .entries)) in
-        let room : (k : ℕ) → length (column k (a .entries)) ≤ 64 = λ k. omega (arith, column-length k (a .entries), fa .0, fa .1) in
+        let lengths : (k : ℕ) → length (column k (a .records)) ≡ length (column k (b .records)) = λ k. column-length k (a .records) ∙ fa .0 ∙ same ∙ sym (fb .0) ∙ sym (column-length k (b .records)) in
+        let room : (k : ℕ) → length (column k (a .records)) ≤ 64 = λ k. omega (arith, column-length k (a .records), fa .0, fa .1) in
         rw (padded-same 64 (wishes a) (wishes b) (lengths 0) (room 0), padded-same 64 (clashes a) (clashes b) (lengths 1) (room 1))
     go false e = rw e
 

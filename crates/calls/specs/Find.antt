@@ -12,7 +12,7 @@ use Rattle.calls.specs.declared.FindAnswer.the-variants as FindAnswer
 
 -- on a job: the lowest number with this name; none is 16
 abbrev pub findIn : Job (List ℕ) → List ℕ → Answer ℕ
-findIn job name = found (lowestNamed name (size job) (λ i. getD (namesOf (job .entries)) i [])) NameNotFound
+findIn job name = found (lowestNamed name (size job) (λ i. getD (namesOf (job .records)) i [])) NameNotFound
 
 -- on a file
 abbrev pub findOf : List ℕ → List ℕ → Answer ℕ

@@ -12,7 +12,7 @@ use native.Mathlib.Omega.{arith}
 use lib.Dec.{leb, ltb, eqb}
 use lib.ListN.{length, getD, take, drop, length-take}
 use lib.Pow.{pow-pos, pow-mono}
-use borrow.Author.Tests.{leb-true, le-leb, ltb-true, lt-ltb, eqb-true, eqb-false, eq-eqb, not-true, not-false}
+use borrow.Author.Tests.{leb-true, le-leb, ltb-true, lt-ltb, eqb-true, eqb-false, eq-eqb, not-true}
 use Rattle.sets.specs.Sets.{_∈_, without, part}
 use Rattle.sets.specs.Ranges.{anyTo}
 use Rattle.sets.specs.First.{firstFrom, LeastFrom, Smallest}
@@ -21,16 +21,11 @@ use Rattle.sets.proofs.Bits.{bit-shift, in-without, top-in, yes-part, part-in}
 use Rattle.sets.proofs.Lowest.{some-member}
 use Rattle.sets.proofs.First.{first-smallest, smallest-first}
 use Rattle.reading.specs.declared.Reason.{Reason}
-use Rattle.reading.specs.declared.Reason.the-variants.{WrongKind, OutOfRange, ShortBuffer, FalsePartition, LiveOutsideFile, BadGoal, NoSelection, NoPlan}
+use Rattle.reading.specs.declared.Reason.the-variants.{OutOfRange, ShortBuffer, FalsePartition, LiveOutsideFile, BadGoal, NoSelection, NoPlan}
 use Rattle.reading.specs.Reasons.{numberOf, answers}
 use Rattle.reading.specs.Got.{Got, got, refused}
-use Rattle.reading.specs.Items.{kindAt}
-use Rattle.jobfile.specs.Job.{Entry, Job, namesOf, size, wishCount, order, wishes, clashes, horizon}
-use Rattle.jobfile.specs.Read.{read, choices, fittings, either, readJob}
-use Rattle.jobfile.specs.Write.{write}
-use Rattle.jobfile.specs.Valid.{Bytes}
-use Rattle.jobfile.proofs.Lawful.{then-got, refuse-got}
-use Rattle.jobfile.proofs.Theorems.{Known, exact}
+use Rattle.jobfile.specs.Job.{Record, Job, namesOf, size, wishCount, order, wishes, clashes, horizon}
+use Rattle.jobfile.specs.Read.{readJob}
 use Rattle.matching.specs.Same.{sameList, sameName, alike}
 use Rattle.matching.specs.Names.{lowestNamed}
 use Rattle.matching.proofs.SameLaws.{list-same, agree}
@@ -315,30 +310,11 @@ module _ {A B : Type 0} (words : A → List ℕ) (told : A → B) (old : List �
 
 -- ---- what an accepted file states
 
--- the kinds that the calls take are among those that there are
-pub choices-known : Known choices
-choices-known kind e = left-true (eqb kind 67) (eqb kind 70) e
-
-pub fittings-known : Known fittings
-fittings-known kind e = right-true (eqb kind 67) (eqb kind 70) e
-
-pub either-known : Known either
-either-known kind e = e
-
--- its kind is one that the call takes
-pub kind-taken : (takes : ℕ → Bool) → Known takes → (file : List ℕ) → Bytes file → {job : Job (List ℕ)} {end : ℕ} → readJob takes file ≡ got job end → takes (job .kind) ≡ true
-unfolding readJob read kindAt write
-kind-taken takes known file bytes {job} e =
-    let k = then-got (kindAt takes file 0) _ e in
-    let a = refuse-got (leb (length file) 0) WrongKind 0 _ (k .first) in
-    let b = refuse-got (not (takes (getD file 0 0))) WrongKind 0 _ (a .1) in
-    ap takes (sym (ap (λ (f : List ℕ). getD f 0 0) (exact takes known file bytes e))) ∙ not-false (takes (getD file 0 0)) (b .0)
-
 -- no name stands behind its records
-pub name-past : (entries : List (Entry (List ℕ))) (i : ℕ) → length entries ≤ i → getD (namesOf entries) i [] ≡ []
+pub name-past : (records : List (Record (List ℕ))) (i : ℕ) → length records ≤ i → getD (namesOf records) i [] ≡ []
 name-past [] i l = refl
-name-past (x ∷ entries) zero l = absurd (omega arith)
-name-past (x ∷ entries) (suc i) l = name-past entries i (omega arith)
+name-past (r ∷ records) zero l = absurd (omega arith)
+name-past (r ∷ records) (suc i) l = name-past records i (omega arith)
 
 -- ---- the choice
 
@@ -390,12 +366,12 @@ found-some (some y) r x = (λ e. ap some (one-value e), λ e. ap answered (Optio
 
 -- the lowest number with a name
 pub lowest-exactly : (name : List ℕ) (job : Job (List ℕ)) (i : ℕ)
-    → Exactly (lowestNamed name (size job) (λ i. getD (namesOf (job .entries)) i []) ≡ some i) (Has job name i × ((j : ℕ) → j < i → Has job name j → ⊥))
+    → Exactly (lowestNamed name (size job) (λ i. getD (namesOf (job .records)) i []) ≡ some i) (Has job name i × ((j : ℕ) → j < i → Has job name j → ⊥))
 lowest-exactly [] job i = (λ e. absurd (Option·none-ne-some i e), λ w. absurd (w .0 .0 refl))
 lowest-exactly (b ∷ bs) job i = (to, back)
   where
     names : ℕ → List ℕ
-    names j = getD (namesOf (job .entries)) j []
+    names j = getD (namesOf (job .records)) j []
 
     some-byte : (b ∷ bs) ≡ [] → ⊥
     some-byte e = let z : _≡_ {A = ℕ} 0 1 = cc in omega arith

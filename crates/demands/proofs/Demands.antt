@@ -99,7 +99,7 @@ demand-1-plan file buffer =
     file-tests fittings file (λ job. planIn job buffer) (λ job. room-checks buffer (horizon job) .tests (tests-end _ (found-taken (fewest (fittingOf job) (horizon job)) NoPlan refl)))
 
 pub demand-1-find : (file name : List ℕ) (number place : ℕ) → Exactly (Refuses (said (findOf file name)) number place) (Wrong either file (λ job. []) number place)
-demand-1-find file name = file-tests either file (λ job. findIn job name) (λ job. tests-end _ (found-taken (lowestNamed name (size job) (λ i. getD (namesOf (job .entries)) i [])) NameNotFound refl))
+demand-1-find file name = file-tests either file (λ job. findIn job name) (λ job. tests-end _ (found-taken (lowestNamed name (size job) (λ i. getD (namesOf (job .records)) i [])) NameNotFound refl))
 
 -- the comparison: the first file, then the second
 pub demand-1-compare : (first second : List ℕ) (number place : ℕ)
@@ -133,10 +133,10 @@ demand-1-name file number e = ap (λ g. nameIn g number) e
 pub demand-1-name-absent : (file : List ℕ) (number : ℕ) → Bytes file → {job : Job (List ℕ)} {end : ℕ} → readJob either file ≡ got job end → size job ≤ number → nameOf file number ≡ []
 demand-1-name-absent file number bytes {job} e l =
     let ok : Valid job = exact-and-valid either either-known file bytes e .1 in
-    ap (λ g. nameIn g number) e ∙ name-past (job .entries) number (omega (arith, ok .size))
+    ap (λ g. nameIn g number) e ∙ name-past (job .records) number (omega (arith, ok .size))
 
 -- otherwise it gives the name of that article or step, empty where it has none, and always a part of the file's own bytes
-pub demand-1-name-result : (file : List ℕ) (number : ℕ) {job : Job (List ℕ)} {end : ℕ} → readJob either file ≡ got job end → nameOf file number ≡ getD (namesOf (job .entries)) number []
+pub demand-1-name-result : (file : List ℕ) (number : ℕ) {job : Job (List ℕ)} {end : ℕ} → readJob either file ≡ got job end → nameOf file number ≡ getD (namesOf (job .records)) number []
 demand-1-name-result file number e = ap (λ g. nameIn g number) e
 
 pub demand-1-name-part : (file : List ℕ) (number : ℕ) → (start len : ℕ) × (nameOf file number ≡ take len (drop start file))
@@ -180,7 +180,7 @@ demand-1-find-result file name t = let (job, end, e, i, s) = file-taken either f
 pub demand-1-find-lowest : (file name : List ℕ) {job : Job (List ℕ)} {end : ℕ} → readJob either file ≡ got job end → (i : ℕ) → Exactly (said (findOf file name) ≡ answered i) (Has job name i × ((j : ℕ) → j < i → Has job name j → ⊥))
 demand-1-find-lowest file name {job} e i =
     let is : said (findOf file name) ≡ said (findIn job name) = ap (λ g. said (onJob g (λ job. findIn job name))) e in
-    let some = found-some (lowestNamed name (size job) (λ i. getD (namesOf (job .entries)) i [])) NameNotFound i in
+    let some = found-some (lowestNamed name (size job) (λ i. getD (namesOf (job .records)) i [])) NameNotFound i in
     exactly-then (λ r. some .0 (sym is ∙ r), λ s. is ∙ some .1 s) (lowest-exactly name job i)
 
 pub demand-1-alike : (a b : Job (List ℕ)) → Exactly (alike a b ≡ true) (Alike a b)

@@ -90,7 +90,7 @@ wrongGoals order goals = record {
 
 -- article or step i has this name, which is not empty
 abbrev pub Has : Job (List ℕ) → List ℕ → ℕ → Type 0
-Has job name i = (name ≡ [] → ⊥) × (i < size job) × (getD (namesOf (job .entries)) i [] ≡ name)
+Has job name i = (name ≡ [] → ⊥) × (i < size job) × (getD (namesOf (job .records)) i [] ≡ name)
 
 -- n, w, order, wishes and clashes agree
 abbrev pub Alike : Job (List ℕ) → Job (List ℕ) → Type 0
