@@ -18,7 +18,7 @@ use Rattle.jobfile.specs.Valid.{Bytes, Valid}
 use Rattle.jobfile.specs.Answers.{spotIn, nameIn}
 use Rattle.jobfile.proofs.NamingLaws.{name-at-spot}
 use Rattle.reading.specs.Items.{spots}
-use Rattle.jobfile.proofs.Theorems.{Known, exact-and-valid, read-back, one-writing}
+use Rattle.jobfile.proofs.Theorems.{exact-and-valid, kind-taken, read-back, one-writing}
 use Rattle.matching.specs.Names.{lowestNamed}
 use Rattle.matching.specs.Same.{alike}
 use Rattle.network.specs.Network.{Selection, networkOf}
@@ -42,21 +42,21 @@ use Rattle.calls.specs.Find.{findIn, findOf}
 use Rattle.calls.specs.Compare.{compareOf}
 use Rattle.demands.specs.Demands.{Exactly, Refuses, Says, Off, Wrong, absentLayer, shortBuffer, falsePartition, absentArticle, wrongGoal, wrongGoals, Has, Alike, ChoiceKept, PlanKept}
 use Rattle.demands.proofs.ReasonLaws.{file-reason}
-use Rattle.demands.proofs.DemandLaws.{exactly-then, tests-end, accepted-exactly, both-pass, room-checks, layer-checks, groups-checks, pass-checks, goals-checks, file-exactly, file-tests, file-taken, file-only, left-exactly, left-taken, left-kept, left-value, either-known, kind-taken, name-past, chosen-taken, chosen-none, choice-is, choice-kept, found-taken, found-none, found-some, lowest-exactly, alike-exactly, plan-is, plan-kept}
+use Rattle.demands.proofs.DemandLaws.{exactly-then, tests-end, accepted-exactly, both-pass, room-checks, layer-checks, groups-checks, pass-checks, goals-checks, file-exactly, file-tests, file-taken, file-only, left-exactly, left-taken, left-kept, left-value, name-past, chosen-taken, chosen-none, choice-is, choice-kept, found-taken, found-none, found-some, lowest-exactly, alike-exactly, plan-is, plan-kept}
 
 -- ---- demand 1
 
 -- "Refused are files off the layout": those that are not the writing of a valid job of a kind that the call takes
-pub demand-1-files : (takes : ℕ → Bool) → Known takes → (file : List ℕ) → Bytes file
+pub demand-1-files : (takes : ℕ → Bool) (file : List ℕ) → Bytes file
     → Exactly ((reason : Reason) × (place : ℕ) × (readJob takes file ≡ refused reason place)) ((job : Job (List ℕ)) → Valid job → takes (job .kind) ≡ true → file ≡ write job → ⊥)
-demand-1-files takes known file bytes = (λ w job ok t e. absurd (no-value (sym (w .2) ∙ ap (readJob takes) e ∙ read-back takes known job ok t)), λ h. go h (readJob takes file) refl)
+demand-1-files takes file bytes = (λ w job ok t e. absurd (no-value (sym (w .2) ∙ ap (readJob takes) e ∙ read-back takes job ok t)), λ h. go h (readJob takes file) refl)
   where
     no-value : {reason : Reason} {place : ℕ} {job : Job (List ℕ)} {end : ℕ} → refused reason place ≡ got job end → ⊥
     no-value e = let z : _≡_ {A = ℕ} 0 1 = cc in omega arith
 
     go : ((job : Job (List ℕ)) → Valid job → takes (job .kind) ≡ true → file ≡ write job → ⊥) → (g : Got (Job (List ℕ))) → readJob takes file ≡ g → (reason : Reason) × (place : ℕ) × (readJob takes file ≡ refused reason place)
     go h (refused reason place) e = (reason, place, e)
-    go h (got job end) e = let (w, ok) = exact-and-valid takes known file bytes e in absurd (h job ok (kind-taken takes known file bytes e) w)
+    go h (got job end) e = let (w, ok) = exact-and-valid takes file bytes e in absurd (h job ok (kind-taken takes file bytes e) w)
 
 -- by reasons 1 to 8
 pub demand-1-file-numbers : (takes : ℕ → Bool) (file : List ℕ) {reason : Reason} {place : ℕ} → readJob takes file ≡ refused reason place → numberOf reason ≤ 8
@@ -132,7 +132,7 @@ demand-1-name file number e = ap (λ g. nameIn g number) e
 
 pub demand-1-name-absent : (file : List ℕ) (number : ℕ) → Bytes file → {job : Job (List ℕ)} {end : ℕ} → readJob either file ≡ got job end → size job ≤ number → nameOf file number ≡ []
 demand-1-name-absent file number bytes {job} e l =
-    let ok : Valid job = exact-and-valid either either-known file bytes e .1 in
+    let ok : Valid job = exact-and-valid either file bytes e .1 in
     ap (λ g. nameIn g number) e ∙ name-past (job .records) number (omega (arith, ok .size))
 
 -- otherwise it gives the name of that article or step, empty where it has none, and always a part of the file's own bytes
@@ -196,12 +196,12 @@ demand-1-compare-result first second t =
 -- ---- demand 2: on accepted input, each result is its definition on the job that the file states
 
 -- "Reading": an accepted file is the writing of its job, which is valid
-pub demand-2-reading : (takes : ℕ → Bool) → Known takes → (file : List ℕ) → Bytes file → {job : Job (List ℕ)} {end : ℕ} → readJob takes file ≡ got job end → (file ≡ write job) × Valid job
-demand-2-reading takes known file bytes e = exact-and-valid takes known file bytes e
+pub demand-2-reading : (takes : ℕ → Bool) (file : List ℕ) → Bytes file → {job : Job (List ℕ)} {end : ℕ} → readJob takes file ≡ got job end → (file ≡ write job) × Valid job
+demand-2-reading takes file bytes e = exact-and-valid takes file bytes e
 
 -- and the writing of every valid job is accepted and reads back as that job
-pub demand-2-read-back : (takes : ℕ → Bool) → Known takes → (job : Job (List ℕ)) → Valid job → takes (job .kind) ≡ true → readJob takes (write job) ≡ got job (length (write job))
-demand-2-read-back takes known job ok t = read-back takes known job ok t
+pub demand-2-read-back : (takes : ℕ → Bool) (job : Job (List ℕ)) → Valid job → takes (job .kind) ≡ true → readJob takes (write job) ≡ got job (length (write job))
+demand-2-read-back takes job ok t = read-back takes job ok t
 
 -- "partition", in front of the buffer, with the later bytes as they were; it is one
 pub demand-2-partition : (file buffer : List ℕ) → accepted (partitionOf file buffer .answer) ≡ true
@@ -244,8 +244,8 @@ demand-2-round-layer file buffer k t =
     (job, end, e, p, q)
 
 -- "no two different files that are accepted state one job"
-pub demand-2-one-writing : (takes takes′ : ℕ → Bool) → Known takes → Known takes′ → (f g : List ℕ) → Bytes f → Bytes g → {job : Job (List ℕ)} {m n : ℕ} → readJob takes f ≡ got job m → readJob takes′ g ≡ got job n → f ≡ g
-demand-2-one-writing takes takes′ known known′ f g bf bg p q = one-writing takes takes′ known known′ f g bf bg p q
+pub demand-2-one-writing : (takes takes′ : ℕ → Bool) (f g : List ℕ) → Bytes f → Bytes g → {job : Job (List ℕ)} {m n : ℕ} → readJob takes f ≡ got job m → readJob takes′ g ≡ got job n → f ≡ g
+demand-2-one-writing takes takes′ f g bf bg p q = one-writing takes takes′ f g bf bg p q
 
 -- ---- demand 3
 

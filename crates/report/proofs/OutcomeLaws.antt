@@ -17,7 +17,7 @@ use Rattle.reading.specs.declared.Reason.the-variants.{WrongKind, ShortBuffer, 
 use Rattle.reading.specs.Got.{Got, got, refused, refuse}
 use Rattle.reading.specs.Items.{kindAt}
 use Rattle.jobfile.specs.Job.{Job, size, horizon, order}
-use Rattle.jobfile.specs.Read.{read, readJob, choices, fittings}
+use Rattle.jobfile.specs.Read.{layoutAt, read, readJob, choices, fittings}
 use Rattle.network.specs.Network.{networkOf}
 use Rattle.network.specs.Groups.{groupsTo}
 use Rattle.choice.specs.Choice.{soleGoal}
@@ -42,7 +42,7 @@ other-byte takes file e = ap (λ (b : Bool). refuse (leb (length file) 0) WrongK
     go false = refl
 
 other-kind : (takes : ℕ → Bool) (file : List ℕ) → takes (getD file 0 0) ≡ false → readJob takes file ≡ refused WrongKind 0
-unfolding readJob read
+unfolding readJob read layoutAt
 other-kind takes file e = rw (other-byte takes file e)
 
 -- ---- any file
