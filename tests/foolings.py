@@ -321,11 +321,11 @@ def least_counts():
     }.items():
         check(fault, f"a check that sees {label}: it is not found")
     passes("enough", enough, {"crates": 36, "edits": 9}, {"crates": 36})
-    found("too few", "35 of crates, and not 36", enough, {"crates": 35}, {"crates": 36})
-    found("none", "0 of edits, and not 1", enough, {"crates": 36}, {"crates": 36, "edits": 1})
+    found("too few", "crates: 35 and not 36", enough, {"crates": 35}, {"crates": 36})
+    found("none", "edits: 0 and not 1", enough, {"crates": 36}, {"crates": 36, "edits": 1})
     found("no least counts", "", enough, {"crates": 36}, {})
     with contextlib.redirect_stdout(io.StringIO()):
-        found("a sort that is not compared", "0 of refused 2, and not 5", gate.counted, "refused 1: 9, refused 12: 7", {"refused 1": 9, "refused 2": 5})
+        found("a sort that is not compared", "refused 2: 0 and not 5", gate.counted, "refused 1: 9, refused 12: 7", {"refused 1": 9, "refused 2": 5})
 
 
 def verdicts():

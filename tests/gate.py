@@ -124,17 +124,13 @@ def assumed(verdict):
 
 
 def assumptions_as_stated():
-    """Each program, and the C library, assumes as many C functions as README.md says, in a row with its name and `axioms=N`."""
-    readme = (ROOT / "README.md").read_text()
-    demand(programs(), "there is no program")
-    built_library()  # rt counts what a library assumes only when it makes an archive of it
-    for name, title in [("capi", "libkitchen"), *((name, name) for name in programs())]:
-        stated = re.search(rf"^\| `{title}`[^\n]*`axioms=(\d+)`", readme, re.M)
-        demand(stated, f"README.md does not state the axioms of {title}")
-        counted = assumed(verdict(name))
-        demand(int(stated[1]) == counted, f"README.md states axioms={stated[1]} of {title}, the check counts {counted}")
-    demand(assumed(verdict("capi")) == 0, "the C library assumes C functions")
-    return 1 + len(programs())
+    """Each program, and the C library, assumes as many C functions as README.md says, in a row with its name and `axioms=N`; the library none."""
+    built_library()  # rt counts what a library assumes only where it makes an archive of it
+    counted = {"libkitchen": assumed(verdict("capi")), **{name: assumed(verdict(name)) for name in programs()}}
+    stated = re.findall(r"^\| `(\w+)`[^\n]*`axioms=(\d+)`", (ROOT / "README.md").read_text(), re.M)
+    demand(sorted(stated) == sorted((name, str(count)) for name, count in counted.items()), f"README.md states {stated}, the check counts {counted}")
+    demand(counted["libkitchen"] == 0, "the C library assumes C functions")
+    return len(counted)
 
 
 def trace():
@@ -185,12 +181,16 @@ def second_program():
     return compared
 
 
+def counts_in(printed):
+    """The counts in lines of `what: count, ..`."""
+    return {name.strip(): int(count) for name, count in re.findall(r"([a-z0-9_ ]+): (\d+)", printed)}
+
+
 def counted(printed, wanted):
-    """The counts in a line of `what: count, ..`, which is printed; of all that is wanted there are as many as tests/least.py says."""
+    """The counts in what was printed, which is printed here; of all that is wanted there are as many as tests/least.py says."""
     print(printed.strip(), flush=True)
-    counts = {name.strip(): int(count) for name, count in re.findall(r"([a-z0-9_ ]+): (\d+)", printed)}
-    enough(counts, wanted)
-    return counts
+    enough(counts_in(printed), wanted)
+    return counts_in(printed)
 
 
 def kitchen_prints():
@@ -473,10 +473,13 @@ def faults():
     return 6
 
 
-def checks_of(script):
-    """How many checks a script of tests/ made; all but its last line is printed."""
-    *lines, last = run([sys.executable, "-B", f"tests/{script}.py"]).splitlines()
-    print("".join(line + "\n" for line in lines), end="", flush=True)
+def checks_of(script, parts=None):
+    """How many checks a script of tests/ made; all but its last line is printed, and has the parts that are wanted."""
+    said, _, last = run([sys.executable, "-B", f"tests/{script}.py"]).rstrip().rpartition("\n")
+    if said:
+        print(said, flush=True)
+    if parts:
+        enough(counts_in(said), parts)
     return int(re.fullmatch(r"(\d+) checks", last)[1])
 
 
@@ -497,7 +500,7 @@ def first_command():
 def showroom():
     """tests/showroom.py: what tools/job and host/kitchen.py answer, beside the second program, brute force and lying stand-ins."""
     built_library()
-    return checks_of("showroom")
+    return checks_of("showroom", least.SHOWROOM)
 
 
 def showroom_faults():

@@ -30,8 +30,8 @@ def demand(condition, reason):
 
 def enough(seen, least):
     """Of each thing that has a least count, at least so many were seen."""
-    few = [f"{seen.get(name, 0)} of {name}, and not {count}" for name, count in least.items() if seen.get(name, 0) < count]
-    demand(least and not few, "fewer than tests/least.py says: " + "; ".join(few))
+    few = [f"{name}: {seen.get(name, 0)} and not {count}" for name, count in least.items() if seen.get(name, 0) < count]
+    demand(least and not few, "fewer than tests/least.py says; " + ", ".join(few))
 
 
 def run(command, status=0):
@@ -126,7 +126,7 @@ def tried(check, least):
         result.seen = check()
         demand(isinstance(result.seen, int) and result.seen > 0, "it looked at nothing")
         demand(result.name in least, "tests/least.py does not say how many things it has to see")
-        enough({"the things it looks at": result.seen}, {"the things it looks at": least[result.name]})
+        enough({"it saw": result.seen}, {"it saw": least[result.name]})
     except Failed as reason:
         result.fault = str(reason) or "it gives no reason"
     except (Exception, SystemExit) as trouble:  # a check that breaks has not passed
