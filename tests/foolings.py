@@ -71,27 +71,29 @@ def planted(path, old, new):
 
 # ---- the header
 
-# Of each wrong header: what is changed in ours, and whether a compiler can see it (a name is no part of a type).
+# Of each wrong header: what is changed in ours, and who sees it: WORDS are compared, and a compiler sees TYPES, of which no name is a part.
+WORDS, TYPES = {"words"}, {"types"}
+BOTH = WORDS | TYPES
 WRONG_HEADERS = {
-    "arguments swapped": ("uint64_t layer, uint32_t *mutexes,\n                            size_t mutexes_len", "uint32_t *mutexes,\n                            size_t mutexes_len, uint64_t layer", True),
-    "pointer and length swapped": ("(const uint8_t *file, size_t file_len, uint64_t number", "(size_t file_len, const uint8_t *file, uint64_t number", True),
-    "arguments of one type swapped": ("uint64_t live,\n                      uint64_t goal", "uint64_t goal,\n                      uint64_t live", False),
-    "files swapped": ("const uint8_t *first, size_t first_len, const uint8_t *second, size_t second_len", "const uint8_t *second, size_t second_len, const uint8_t *first, size_t first_len", False),
-    "a narrower number": ("uint64_t floor", "uint32_t floor", True),
-    "a wider element": ("uint32_t *rounds", "uint64_t *rounds", True),
-    "a shorter length": ("size_t rounds_len", "uint32_t rounds_len", True),
-    "a length of another name": ("size_t goals_len", "uint64_t goals_len", False),
-    "a sign": ("uint64_t number", "int64_t number", True),
-    "another result": ("uint32_t kitchen_find(", "uint64_t kitchen_find(", True),
-    "no result": ("uint32_t kitchen_version(void)", "void kitchen_version(void)", True),
-    "a buffer that is only read": ("uint8_t *groups, size_t groups_len, uint64_t out[2]);\n\n/* A pass", "const uint8_t *groups, size_t groups_len, uint64_t out[2]);\n\n/* A pass", True),
-    "a file that is written": ("uint32_t kitchen_plan(const uint8_t *file", "uint32_t kitchen_plan(uint8_t *file", True),
-    "no parameters": ("uint32_t kitchen_version(void)", "uint32_t kitchen_version()", True),
-    "an argument too many": ("uint64_t number, uint64_t out[2]", "uint64_t number, uint64_t kind, uint64_t out[2]", True),
-    "out of three words": ("uint64_t number, uint64_t out[2]", "uint64_t number, uint64_t out[3]", False),
-    "a function of another name": ("kitchen_compare(const", "kitchen_compares(const", True),
-    "a call of the interface left out": ("uint32_t kitchen_version(void);", "", True),
-    "another size": ("#include <stdint.h>\n", "#include <stdint.h>\n#define size_t uint32_t\n", True),
+    "arguments swapped": ("uint64_t layer, uint32_t *mutexes,\n                            size_t mutexes_len", "uint32_t *mutexes,\n                            size_t mutexes_len, uint64_t layer", BOTH),
+    "pointer and length swapped": ("(const uint8_t *file, size_t file_len, uint64_t number", "(size_t file_len, const uint8_t *file, uint64_t number", BOTH),
+    "arguments of one type swapped": ("uint64_t live,\n                      uint64_t goal", "uint64_t goal,\n                      uint64_t live", WORDS),
+    "files swapped": ("const uint8_t *first, size_t first_len, const uint8_t *second, size_t second_len", "const uint8_t *second, size_t second_len, const uint8_t *first, size_t first_len", WORDS),
+    "a narrower number": ("uint64_t floor", "uint32_t floor", BOTH),
+    "a wider element": ("uint32_t *rounds", "uint64_t *rounds", BOTH),
+    "a shorter length": ("size_t rounds_len", "uint32_t rounds_len", BOTH),
+    "a length of another name": ("size_t goals_len", "uint64_t goals_len", WORDS),
+    "a sign": ("uint64_t number", "int64_t number", BOTH),
+    "another result": ("uint32_t kitchen_find(", "uint64_t kitchen_find(", BOTH),
+    "no result": ("uint32_t kitchen_version(void)", "void kitchen_version(void)", BOTH),
+    "a buffer that is only read": ("uint8_t *groups, size_t groups_len, uint64_t out[2]);\n\n/* A pass", "const uint8_t *groups, size_t groups_len, uint64_t out[2]);\n\n/* A pass", BOTH),
+    "a file that is written": ("uint32_t kitchen_plan(const uint8_t *file", "uint32_t kitchen_plan(uint8_t *file", BOTH),
+    "no parameters": ("uint32_t kitchen_version(void)", "uint32_t kitchen_version()", BOTH),
+    "an argument too many": ("uint64_t number, uint64_t out[2]", "uint64_t number, uint64_t kind, uint64_t out[2]", BOTH),
+    "out of three words": ("uint64_t number, uint64_t out[2]", "uint64_t number, uint64_t out[3]", WORDS),
+    "a function of another name": ("kitchen_compare(const", "kitchen_compares(const", BOTH),
+    "a call of the interface left out": ("uint32_t kitchen_version(void);", "", BOTH),
+    "another size": ("#include <stdint.h>\n", "#include <stdint.h>\n#define size_t uint32_t\n", TYPES),
 }  # fmt: skip
 
 
@@ -101,9 +103,9 @@ def headers(folder):
     for label, (old, new, seen) in WRONG_HEADERS.items():
         wrong = changed(HEADER, old, new)
         (folder / "kitchen.h").write_text(wrong)
-        if label != "another size":  # the words of the declarations are as they have to be
+        if seen >= WORDS:
             found(label, "the header declares ", interface.same_prototypes, wrong, CAPI)
-        if seen:
+        if seen >= TYPES:
             found(f"{label}, for a compiler", "redeclared.c", interface.compiled, CAPI, folder, folder)
     for label, old, new in (
         ("capi with another width", "floor: u64,", "floor: u32,"),
@@ -242,7 +244,7 @@ def with_promises(folder):
     for part in ("crates", "docs", "host", "include", "reference", "tests"):
         shutil.copytree(HERE / part, folder / part, ignore=shutil.ignore_patterns("__pycache__"))
     stated = [name for name, public in names.signatures((folder / names.DEMANDS).read_text()) if public]
-    lists = "".join(f"use Rattle.calls.proofs.Demands.{{{', '.join(part)}}}\n" for part in (stated[:5], stated[5:]))
+    lists = "".join(f"use Rattle.calls.proofs.Demands.{{{', '.join(part)}}}\n" for part in (stated[:1], stated[1:5], stated[5:]))
     (folder / names.PROMISES).write_text(f"-- All of them.\n{lists}")
     lib = folder / "crates" / "calls" / "proofs" / "Lib.antt"
     lib.write_text("\n".join([*(line for line in lib.read_text().splitlines() if line != "pub mod Promises"), "pub mod Promises", ""]))
@@ -278,20 +280,24 @@ def declared_names(folder):
 
 def promises(folder):
     page, demands, taken = (folder / name for name in ("docs/TRACE.md", names.DEMANDS, names.PROMISES))
+    one = next(name for name, public in names.signatures(demands.read_text()) if public)
     table = page.read_text().partition("\n## The demands\n")[2]
-    row = next(line for line in table.splitlines() if line.startswith("| 3 the planner"))
+    row = next(line for line in table.splitlines() if f"`{one}`" in line)
+    first = f"use Rattle.calls.proofs.Demands.{{{one}}}\n"
     passes("the theorems of the demands", names.promised, folder)
     for label, path, old, new in (
-        ("a theorem deleted", demands, "pub demand-3-plan :", "-- demand-3-plan\npub demand-3-plans :"),
-        ("a theorem in a comment", demands, "pub demand-3-plan :", "-- pub demand-3-plan :"),
-        ("a theorem that is not pub", demands, "pub demand-3-plan :", "demand-3-plan :"),
-        ("a theorem that is not imported", taken, ", demand-3-plan,", ","),
-        ("an import in a comment", taken, "use Rattle.calls.proofs.Demands.{demand-1-files", "-- use Rattle.calls.proofs.Demands.{demand-1-files"),
-        ("a row without a theorem", page, row, row.replace("`demand-3-plan`, ", "")),
-        ("a row of a theorem too many", page, row, row.replace("`demand-3-plan`, ", "`demand-3-plan`, `demand-3-plans`, ")),
+        ("a theorem deleted", demands, f"pub {one} :", f"-- {one}\npub another-{one} :"),
+        ("a theorem in a comment", demands, f"pub {one} :", f"-- pub {one} :"),
+        ("a theorem that is not pub", demands, f"pub {one} :", f"{one} :"),
+        ("a theorem that is not imported", taken, first, ""),
+        ("a theorem that is imported from elsewhere", taken, first, first.replace("Demands", "DemandLaws")),
+        ("an import in a comment", taken, first, f"-- {first}"),
+        ("an import in a long comment", taken, first, f"{{-\n{first}-}}\n"),
+        ("a row without a theorem", page, row, row.replace(f"`{one}`", "")),
+        ("a row of a theorem too many", page, row, row.replace(f"`{one}`", f"`{one}`, `another-{one}`")),
     ):
         with planted(path, old, new):
-            found(label, " differ in ['demand-", names.promised, folder)
+            found(label, f"{one}'", names.promised, folder)
     with planted(folder / "crates" / "calls" / "proofs" / "Lib.antt", "pub mod Promises", "-- pub mod Promises"):
         found("a file that the checker does not read", "does not declare Promises", names.promised, folder)
     taken.unlink()

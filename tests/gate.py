@@ -103,9 +103,8 @@ def counts():
 
 def layout():
     """Every file of Rattle is in the layout of rt fmt (rt fmt --check)."""
-    run = subprocess.run(["rt", "fmt", "--check"], stdin=subprocess.DEVNULL, capture_output=True, text=True)
-    demand(run.returncode == 0, "rt fmt --check: " + (run.stdout + run.stderr).strip())
-    return 1
+    run(["rt", "fmt", "--check"])
+    return sum(path.suffix in (".rt", ".antt") for path in (ROOT / "crates").rglob("*"))
 
 
 def nothing_foreign():
