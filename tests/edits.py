@@ -96,9 +96,10 @@ FACTS = re.compile(
     "|".join(
         (
             r"(as printed|computed as far as they go), the two types (first differ|differ only|are) ",
+            r"expected type `",
             r"`search`: no proof of ",
             r"`omega`: the (goal|part `[^`]*` of the goal) does not follow from what it read",
-            r"give a proof of that as the last argument, `simp L t`",
+            r"give a proof of that as the last argument, `(simp|rw) L t`",
         )
     )
 )

@@ -162,12 +162,14 @@ GOOD_LOGS = (
     "proofs/f/Proof.antt:14:14: error: `returns`: as printed, the two types first differ where one has `64` (expected)",
     "proofs/Laws.antt:14:14: error: `law`: computed as far as they go, the two types differ only where one has `1`",
     "proofs/f/Proof.antt:9:13: error: `returns`: give a proof of that as the last argument, `simp L t`",
+    "proofs/Laws.antt:9:13: error: `law`: give a proof of that as the last argument, `rw L t`",
+    "proofs/f/Proof.antt:65:38: error: `returns`: expected type `a < b`, but this has type `a ≤ b`",
 )
 BAD_LOGS = {
     "a name that is not in scope": ("proofs/f/Proof.antt:12:13: error: `returns`: `taken` is not in scope", "no failed fact"),
     "a need that is gone": ("proofs/f/Proof.antt:12:13: error: `f-spec`: the module has no `Need-returns-2`", "no failed fact"),
     "a field that is gone": ("proofs/f/Proof.antt:12:13: error: `returns`: `c .before` has no field `if2`", "no failed fact"),
-    "a proof that cannot be read": ("proofs/f/Proof.antt:12:13: error: expected a term", "no failed fact"),
+    "a proof that cannot be read": ("proofs/f/Proof.antt:12:13: error: expected a term, found `)`", "no failed fact"),
     "a definition that has no type": ("specs/Rules.antt:3:1: error: `rule`: as printed, the two types first differ where one has `ℕ`", "in no proof"),
     "nothing": ("", "names no fact"),
     "what rests on something else": ("proofs/f/Proof.antt:1:1: error: `f-spec`: `returns` was not admitted", "names no fact"),
