@@ -93,6 +93,8 @@ WRONG_HEADERS = {
     "out of three words": ("uint64_t number, uint64_t out[2]", "uint64_t number, uint64_t out[3]", WORDS),
     "a function of another name": ("kitchen_compare(const", "kitchen_compares(const", BOTH),
     "a call of the interface left out": ("uint32_t kitchen_version(void);", "", BOTH),
+    "a function too many": ("uint32_t kitchen_version(void);", "uint32_t kitchen_version(void);\nuint32_t kitchen_news(void);", WORDS),
+    "a function of another sort": ("uint32_t kitchen_version(void);", "uint32_t kitchen_version(void);\nvoid *news(const char *of, int day);", WORDS),
     "another size": ("#include <stdint.h>\n", "#include <stdint.h>\n#define size_t uint32_t\n", TYPES),
 }  # fmt: skip
 

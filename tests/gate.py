@@ -143,16 +143,18 @@ def promises():
 
 
 def documents():
-    """Every crate has its paragraph in docs/ARCHITECTURE.md, and every relative link of the documents leads to a file."""
-    for name in crates():
-        demand(f"### `{name}`" in (ROOT / "docs" / "ARCHITECTURE.md").read_text(), f"docs/ARCHITECTURE.md has no paragraph on {name}")
+    """Every crate has its paragraph in docs/ARCHITECTURE.md and every check its row, and every relative link of the documents leads to a file."""
+    text = (ROOT / "docs" / "ARCHITECTURE.md").read_text()
+    wanted = [*(f"\n### `{name}`\n" for name in crates()), *(f"\n| `{name}` | " for name in least.CHECKS)]
+    absent = [words.strip() for words in wanted if words not in text]
+    demand(not absent, f"docs/ARCHITECTURE.md lacks {', '.join(absent)}")
     links = 0
     for page in [ROOT / "README.md", *sorted((ROOT / "docs").rglob("*.md"))]:
         for target in re.findall(r"\]\(([^)#\s]+)[^)]*\)", page.read_text()):
             demand("://" in target or (page.parent / target).exists(), f"{page}: no file {target}")
             links += 1
     demand(links, "the documents have no link")
-    return len(crates()) + links
+    return len(wanted) + links
 
 
 def scripts(root, programs):

@@ -12,7 +12,7 @@ WARNINGS = ["-Wall", "-Wextra", "-Werror", "-pedantic"]
 STRICT = [*WARNINGS, "-I", "include"]
 NUMBERS = {**{f"{sign}{bits}": f"{'u' if sign == 'u' else ''}int{bits}_t" for sign in "ui" for bits in (8, 16, 32, 64)}, "usize": "size_t"}
 EXPORTED = re.compile(r'#\[no_mangle\]\s*pub extern "C" fn (\w+)\(([^()]*)\)\s*->\s*(\w+)')
-DECLARED = re.compile(r"^([a-z]\w*(?: \w+)*[ *]+)(kitchen_\w+)\s*\(([^()]*)\)\s*;", re.M)
+DECLARED = re.compile(r"^([a-z]\w*(?: \w+)*[ *]+)(\w+)\s*\(([^()]*)\)\s*;", re.M)
 
 
 def in_c(name, kind):

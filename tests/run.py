@@ -108,6 +108,7 @@ def snapshot():
 @dataclasses.dataclass
 class Result:
     name: str
+    least: int = 0
     seen: int = 0
     seconds: float = 0.0
     fault: str = ""  # why it failed
@@ -116,17 +117,17 @@ class Result:
     def row(self):
         saw = "FAILED" if self.fault else "not tried" if self.lacks else self.seen
         reason = (self.fault or self.lacks).partition("\n")[0][:120]
-        return f"{self.name:24}{saw:>10}{self.seconds:10.1f}  {reason}".rstrip()
+        return f"{self.name:24}{saw:>10}{self.least:>10}{self.seconds:10.1f}  {reason}".rstrip()
 
 
 def tried(check, least):
     """Runs a check, and says at once what came of it. It has to see as many things as `least` says of it, and one at least."""
-    result, began = Result(check.__name__), time.monotonic()
+    result, began = Result(check.__name__, least.get(check.__name__, 0)), time.monotonic()
     try:
         result.seen = check()
         demand(isinstance(result.seen, int) and result.seen > 0, "it looked at nothing")
         demand(result.name in least, "tests/least.py does not say how many things it has to see")
-        enough({"it saw": result.seen}, {"it saw": least[result.name]})
+        enough({"it saw": result.seen}, {"it saw": result.least})
     except Failed as reason:
         result.fault = str(reason) or "it gives no reason"
     except (Exception, SystemExit) as trouble:  # a check that breaks has not passed
@@ -212,9 +213,9 @@ def main(checks, extra, each, least):
     results = [tried(check, least) for check in checks if wanted(check)]
     with_tools = [tried_with(tool, check, bool(given.check), least) for check, tool in extra if wanted(check)]
     last = [tried(leaves_the_tree_clean, least)] if wanted(leaves_the_tree_clean) else []
-    last += [Result(name, fault="there is no such check, and tests/least.py names it") for name in absent]
+    last += [Result(name, least[name], fault="there is no such check, and tests/least.py names it") for name in absent]
 
-    print(f"\n{'check':24}{'saw':>10}{'seconds':>10}")
+    print(f"\n{'check':24}{'saw':>10}{'least':>10}{'seconds':>10}")
     for result in results + with_tools + last:
         print(result.row())
     if with_tools:
