@@ -90,18 +90,21 @@ def all_said(root):
 
 # ---- why an edit was refused
 
-# How the checker says that a fact does not hold. Everything else, as "has no field" or "is not in scope", only says that a proof
-# file no longer fits the code, and shows nothing about the contract.
+# How the checker says that a fact is not proved: two types differ, of which one is the fact, or a way of proving it fails. Everything
+# else, as "has no field" or "is not in scope", only says that a proof file no longer fits the code, and shows nothing about the contract.
 FACTS = re.compile(
     "|".join(
         (
             r"(as printed|computed as far as they go), the two types (first differ|differ only|are) ",
-            r"expected type `",
+            r"expected type `.*\bbut this has type `",
             r"`search`: no proof of ",
-            r"`omega`: the (goal|part `[^`]*` of the goal) does not follow from what it read",
-            r"give a proof of that as the last argument, `(simp|rw) L t`",
+            r"`omega`: .*\bdoes not follow from what it read",
+            r"`(simp|rw)` has no last argument, so what it leaves must be a path whose two ends are equal, and `",
+            r"`cc`: the equations do not join `",
+            r"`cc` met a bound of its own before the equations had joined `",
         )
-    )
+    ),
+    re.S,
 )
 AWAY = "was not admitted"  # said of what rests on a function that has no proof: its fact is in a note
 NOTE = "it is not proved that"
@@ -109,13 +112,13 @@ NOTE = "it is not proved that"
 
 def refused_for(log):
     """The log of a refused edit shows that a fact fails: its first error is one, in a proof; or the function has no proof file, and a note names the fact."""
-    first = re.search(r"^(.*):\d+:\d+: error: (.*)$", log, re.M)
-    if not first or AWAY in first[2]:
+    first = re.search(r"^(.*):\d+:\d+: error: (.*(?:\n  .*)*)", log, re.M)
+    if not first or AWAY in first[2].partition("\n")[0]:
         demand(NOTE in log, "its log names no fact that fails")
         return
     place, words = first.groups()
-    demand("/proofs/" in place, f"its first error stands in no proof: {first[0][:300]}")
-    demand(FACTS.match(re.sub(r"^`[^`]+`: ", "", words)), f"its first error is no failed fact: {words[:300]}")
+    demand("/proofs/" in place, f"its first error stands in no proof: {place}: {words[:300]}")
+    demand(FACTS.search(words), f"its first error is no failed fact: {words[:300]}")
 
 
 def all_refused(root):

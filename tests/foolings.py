@@ -160,17 +160,20 @@ AT = "/a/target/must-fail/one/wrong/"
 GOOD_LOGS = (
     "proofs/f/Proof.antt:12:13: error: `returns`: `search`: no proof of `a ≡ b`",
     "proofs/f/Proof.antt:11:17: error: `cast-result`: `omega`: the part `.fits` of the goal does not follow from what it read. All of that holds",
-    "proofs/f/Proof.antt:11:17: error: `returns`: `omega`: the goal does not follow from what it read. All of that holds",
+    "proofs/f/Proof.antt:11:17: error: `returns`: `omega`: a listed rule proves the goal from `a < 0`\n  and that does not follow from what it read",
     "proofs/f/Proof.antt:14:14: error: `returns`: as printed, the two types first differ where one has `64` (expected)",
     "proofs/Laws.antt:14:14: error: `law`: computed as far as they go, the two types differ only where one has `1`",
-    "proofs/f/Proof.antt:9:13: error: `returns`: give a proof of that as the last argument, `simp L t`",
-    "proofs/Laws.antt:9:13: error: `law`: give a proof of that as the last argument, `rw L t`",
-    "proofs/f/Proof.antt:65:38: error: `returns`: expected type `a < b`, but this has type `a ≤ b`",
+    "proofs/f/Proof.antt:65:38: error: `returns`: expected type `a < b`\n  but this has type `a ≤ b`",
+    "proofs/Laws.antt:9:13: error: `law`: give a proof of that as the last argument, `rw L t`\n"
+    "  `rw` has no last argument, so what it leaves must be a path whose two ends are equal, and `a ≡ b`\n  is none",
+    "proofs/f/Proof.antt:19:56: error: `returns`: list the missing equation with its arguments, or rewrite by `rw` or `simp`\n"
+    "  `cc` met a bound of its own before the equations had joined `a` to `true`",
 )
 BAD_LOGS = {
     "a name that is not in scope": ("proofs/f/Proof.antt:12:13: error: `returns`: `taken` is not in scope", "no failed fact"),
     "a need that is gone": ("proofs/f/Proof.antt:12:13: error: `f-spec`: the module has no `Need-returns-2`", "no failed fact"),
     "a field that is gone": ("proofs/f/Proof.antt:12:13: error: `returns`: `c .before` has no field `if2`", "no failed fact"),
+    "a fact that stands behind": ("proofs/f/Proof.antt:12:13: error: `returns`: `taken` is not in scope\nnote: `search`: no proof of `a ≡ b`", "no failed fact"),
     "a proof that cannot be read": ("proofs/f/Proof.antt:12:13: error: expected a term, found `)`", "no failed fact"),
     "a definition that has no type": ("specs/Rules.antt:3:1: error: `rule`: as printed, the two types first differ where one has `ℕ`", "in no proof"),
     "nothing": ("", "names no fact"),
