@@ -172,7 +172,8 @@ GOOD_LOGS = (
 BAD_LOGS = {
     "a name that is not in scope": ("proofs/f/Proof.antt:12:13: error: `returns`: `taken` is not in scope", "no failed fact"),
     "a need that is gone": ("proofs/f/Proof.antt:12:13: error: `f-spec`: the module has no `Need-returns-2`", "no failed fact"),
-    "a field that is gone": ("proofs/f/Proof.antt:12:13: error: `returns`: `c .before` has no field `if2`", "no failed fact"),
+    "a field that is gone": ("proofs/f/Proof.antt:12:13: error: `returns`: record `f.Lts.Then1` has no field `args`", "no failed fact"),
+    "a definition that is gone": ("proofs/Laws.antt:3:1: error: module `specs.Sets` has no `lowest` that can be named from here", "no failed fact"),
     "a fact that stands behind": ("proofs/f/Proof.antt:12:13: error: `returns`: `taken` is not in scope\nnote: `search`: no proof of `a ≡ b`", "no failed fact"),
     "a proof that cannot be read": ("proofs/f/Proof.antt:12:13: error: expected a term, found `)`", "no failed fact"),
     "a definition that has no type": ("specs/Rules.antt:3:1: error: `rule`: as printed, the two types first differ where one has `ℕ`", "in no proof"),

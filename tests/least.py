@@ -43,7 +43,7 @@ CHECKS = {
     "showroom_faults": 9,
     "page": 21_000,
     "runner": 115,
-    "foolings": 159,
+    "foolings": 160,
     "as_cpp": 10,
     "rust": 9,
     "installed": 6,
