@@ -26,7 +26,7 @@ static const uint8_t G[] = {70, 2, 2, 2, FOUR(0), FOUR(3), 2, FOUR(1), 6, FOUR(2
 /* files that are refused */
 static const uint8_t FORBIDDEN[] = {67, 1, 1, EIGHT(0), 8}, EMPTY_FIELD[] = {67, 1, 1, EIGHT(0), 1, EIGHT(0)};
 static const uint8_t ABSENT[] = {67, 0, 1, EIGHT(2)}, LONG_NAME[] = {67, 1, 0, EIGHT(0), 4, KITCHEN_NAME_BYTES + 1};
-static const uint8_t MANY[] = {67, KITCHEN_ARTICLES + 1, 0, EIGHT(0)};
+static const uint8_t NO_NAME[] = {67, 1, 0, EIGHT(0), 4, KITCHEN_NAME_BYTES}, MANY[] = {67, KITCHEN_ARTICLES + 1, 0, EIGHT(0)};
 
 static const uint8_t GROUPS[] = {0, 0, 1};
 static uint64_t out[2];
@@ -104,6 +104,7 @@ static int partition(void)
     GIVES(kitchen_partition(SLICE(EMPTY_FIELD), bytes, MOST, out), KITCHEN_EMPTY_FIELD, 12, 0);
     GIVES(kitchen_partition(SLICE(ABSENT), bytes, MOST, out), KITCHEN_ABSENT_MEMBER, 3, 0);
     GIVES(kitchen_partition(SLICE(LONG_NAME), bytes, MOST, out), KITCHEN_LONG_NAME, 12, 0);
+    GIVES(kitchen_partition(SLICE(NO_NAME), bytes, MOST, out), KITCHEN_ENDS_EARLY, 13, 0);
     GIVES(kitchen_partition(SLICE(F), bytes, MOST, out), KITCHEN_WRONG_KIND, 0, 0);
     GIVES(kitchen_partition(NULL, 0, bytes, MOST, out), KITCHEN_WRONG_KIND, 0, 0);
     return seen;

@@ -11,10 +11,10 @@ import subprocess
 import sys
 import tempfile
 
+import declared
 import edits
 import gate
 import interface
-import names
 from run import Failed, enough, tried
 
 HERE = pathlib.Path(__file__).resolve().parent.parent
@@ -125,6 +125,7 @@ def every_call(folder):
     calls = [
         ("every call", "", HEADER, program, 0),
         ("reasons that changed places", "", changed(changed(HEADER, "NO_SELECTION = 14", "NO_SELECTION = 15"), "NO_PLAN = 15", "NO_PLAN = 14"), program, 1),
+        ("a longer name", "", changed(HEADER, "KITCHEN_NAME_BYTES = 32", "KITCHEN_NAME_BYTES = 33"), program, 1),
         ("a layer of fewer words", "", changed(HEADER, "KITCHEN_ROUND_WORDS = 64", "KITCHEN_ROUND_WORDS = 63"), program, 1),
         ("another answer", "expected 0, 7 0", HEADER, changed(program, "7, 7, out), 0, 6, 0)", "7, 7, out), 0, 7, 0)"), 1),
         ("another buffer", "buffers", HEADER, changed(program, "2, 4, 0, 1, 6)", "2, 4, 0, 1, 7)"), 1),
@@ -251,9 +252,9 @@ def with_promises(folder):
     """A copy of all that docs/TRACE.md names, with a file Promises.antt that imports all theorems of the demands."""
     for part in ("crates", "docs", "host", "include", "reference", "tests"):
         shutil.copytree(HERE / part, folder / part, ignore=shutil.ignore_patterns("__pycache__"))
-    stated = [name for name, public in names.signatures((folder / names.DEMANDS).read_text()) if public]
+    stated = [name for name, public in declared.signatures((folder / declared.DEMANDS).read_text()) if public]
     lists = "".join(f"use Rattle.calls.proofs.Demands.{{{', '.join(part)}}}\n" for part in (stated[:1], stated[1:5], stated[5:]))
-    (folder / names.PROMISES).write_text(f"-- All of them.\n{lists}")
+    (folder / declared.PROMISES).write_text(f"-- All of them.\n{lists}")
     lib = folder / "crates" / "calls" / "proofs" / "Lib.antt"
     lib.write_text("\n".join([*(line for line in lib.read_text().splitlines() if line != "pub mod Promises"), "pub mod Promises", ""]))
 
@@ -262,7 +263,7 @@ def declared_names(folder):
     with_promises(folder)
     page, laws = folder / "docs" / "TRACE.md", folder / "crates" / "jobfile" / "proofs" / "Theorems.antt"
     code, specs = folder / "crates" / "states" / "src" / "lib.rt", folder / "crates" / "states" / "specs"
-    passes("the names", names.traced, folder)
+    passes("the names", declared.traced, folder)
     for label, path, old, new, words in (
         ("a theorem in a comment", laws, "pub one-writing :", "-- pub one-writing :", "one-writing (theorem)"),
         ("a theorem of another name", laws, "pub one-writing :", "-- one-writing\npub two-writings :", "one-writing (theorem)"),
@@ -276,23 +277,23 @@ def declared_names(folder):
         ("a test that is not there", page, "`include/kitchen.h` |", "`include/kitchens.h` |", "include/kitchens.h (test)"),
     ):
         with planted(path, old, new):
-            found(label, words, names.traced, folder)
+            found(label, words, declared.traced, folder)
     (definition,) = [path for path in specs.glob("*.antt") if "pub Hopeless :" in path.read_text()]
     with planted(definition, "pub Hopeless :", "pub Hopeful :"):
-        found("a definition of another name", "Hopeless (definition)", names.traced, folder)
+        found("a definition of another name", "Hopeless (definition)", declared.traced, folder)
     new = folder / "crates" / "sets" / "must-fail" / "new.edit"
     new.write_text("")
-    found("an edit that is not traced", "lacks the must-fail edits new", names.traced, folder)
+    found("an edit that is not traced", "lacks the must-fail edits new", declared.traced, folder)
     new.unlink()
 
 
 def promises(folder):
-    page, demands, taken = (folder / name for name in ("docs/TRACE.md", names.DEMANDS, names.PROMISES))
-    one = next(name for name, public in names.signatures(demands.read_text()) if public)
+    page, demands, taken = (folder / name for name in ("docs/TRACE.md", declared.DEMANDS, declared.PROMISES))
+    one = next(name for name, public in declared.signatures(demands.read_text()) if public)
     table = page.read_text().partition("\n## The demands\n")[2]
     row = next(line for line in table.splitlines() if f"`{one}`" in line)
     first = f"use Rattle.calls.proofs.Demands.{{{one}}}\n"
-    passes("the theorems of the demands", names.promised, folder)
+    passes("the theorems of the demands", declared.promised, folder)
     for label, path, old, new in (
         ("a theorem deleted", demands, f"pub {one} :", f"-- {one}\npub another-{one} :"),
         ("a theorem in a comment", demands, f"pub {one} :", f"-- pub {one} :"),
@@ -305,11 +306,11 @@ def promises(folder):
         ("a row of a theorem too many", page, row, row.replace(f"`{one}`", f"`{one}`, `another-{one}`")),
     ):
         with planted(path, old, new):
-            found(label, f"{one}'", names.promised, folder)
+            found(label, f"{one}'", declared.promised, folder)
     with planted(folder / "crates" / "calls" / "proofs" / "Lib.antt", "pub mod Promises", "-- pub mod Promises"):
-        found("a file that the checker does not read", "does not declare Promises", names.promised, folder)
+        found("a file that the checker does not read", "does not declare Promises", declared.promised, folder)
     taken.unlink()
-    found("no file of promises", "Promises.antt is missing", names.promised, folder)
+    found("no file of promises", "Promises.antt is missing", declared.promised, folder)
 
 
 # ---- counts and verdicts

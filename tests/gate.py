@@ -16,10 +16,10 @@ import sys
 from collections import Counter
 from concurrent.futures import ThreadPoolExecutor
 
+import declared
 import edits as must_fail
 import interface as c_interface
 import least
-import names
 from interface import STRICT
 from run import Failed, RtRun, demand, enough, main, run
 
@@ -90,7 +90,7 @@ def counts():
         "must-fail edits": len(edits()),
         "crates with must-fail edits": len({edit.parts[-3] for edit in edits()}),
         "rows of the proved table": len(must_fail.rows((ROOT / must_fail.TABLE).read_text())),
-        "theorems of the demands": len(names.of_the_demands((ROOT / "docs" / "TRACE.md").read_text())),
+        "theorems of the demands": len(declared.of_the_demands((ROOT / "docs" / "TRACE.md").read_text())),
         "functions of the header": len(c_interface.declarations((ROOT / "include" / "kitchen.h").read_text())),
         "scripts of the second program": len(list((ROOT / "reference").glob("*.py"))),
         "sample jobs": len(list((ROOT / "jobs").glob("*.txt"))),
@@ -134,12 +134,12 @@ def assumptions_as_stated():
 
 def trace():
     """Every name in docs/TRACE.md is declared in crates/ or is a file of the repository, and every must-fail edit stands in docs/TRACE.md."""
-    return names.traced(ROOT)
+    return declared.traced(ROOT)
 
 
 def promises():
     """The theorems of the demands in docs/TRACE.md are those that Demands.antt declares, and Promises.antt, which the checker reads, imports each."""
-    return names.promised(ROOT)
+    return declared.promised(ROOT)
 
 
 def documents():
@@ -240,10 +240,10 @@ def one_number(stated, capi, shared):
     demand(constant == [stated] and returned == stated, f"the number is {stated} in the header, {constant} in capi, and {returned} when it is called")
 
 
-def one_set_of_names(declared, shared):
+def one_set_of_names(functions, shared):
     """The shared library has the functions of the header and no others to be seen."""
     exported = re.findall(r" T (\w+)$", run(["nm", "-D", "--defined-only", shared]), re.M)
-    demand(sorted(declared) == sorted(exported), f"the header declares {declared}, the shared library has {exported}")
+    demand(sorted(functions) == sorted(exported), f"the header declares {functions}, the shared library has {exported}")
 
 
 def named_numbers(text, shared):
@@ -267,11 +267,11 @@ def header():
     """include/kitchen.h declares the functions of capi with their types and no others, has its number, its reasons and its limits, and is plain C; the two programs in it run."""
     text, number = interface()
     capi = (ROOT / "crates" / "capi" / "src" / "lib.rt").read_text()
-    declared = list(c_interface.declarations(text))
+    functions = list(c_interface.declarations(text))
     c_interface.same_prototypes(text, capi)
     c_interface.compiled(capi, ROOT / "target")
     archive, shared = built_library()
-    one_set_of_names(declared, shared)
+    one_set_of_names(functions, shared)
     one_number(number, capi, shared)
     named = named_numbers(text, shared)
     run(["cc", "-std=c99", *STRICT, "-fsyntax-only", "-x", "c", "include/kitchen.h"])
@@ -281,7 +281,7 @@ def header():
     run(["cc", "-std=c99", *STRICT, "target/first.c", archive, "-o", "target/first"])
     first_program(["target/first"])
     first_program([sys.executable, "-B", "target/first.py"])
-    return len(declared) + named + 2
+    return len(functions) + named + 2
 
 
 def every_call():
@@ -289,8 +289,8 @@ def every_call():
     archive, _ = built_library()
     run(["cc", "-std=c99", *STRICT, "tests/every_call.c", archive, "-o", "target/every_call"])
     counts = counted(run(["target/every_call"]), least.EVERY_CALL)
-    declared = c_interface.declarations((ROOT / "include" / "kitchen.h").read_text())
-    demand(sorted(counts) == sorted(declared), f"the header declares {sorted(declared)}, and {sorted(counts)} are called")
+    functions = c_interface.declarations((ROOT / "include" / "kitchen.h").read_text())
+    demand(sorted(counts) == sorted(functions), f"the header declares {sorted(functions)}, and {sorted(counts)} are called")
     return sum(counts.values())
 
 

@@ -63,7 +63,7 @@ def in_code(text):
     return kinds, functions
 
 
-def declared(root):
+def names(root):
     """What the crates below a root declare."""
     found = Declared()
     for path in sorted((root / "crates").rglob("*")):
@@ -71,8 +71,8 @@ def declared(root):
         if path.suffix == ".edit":
             found.edits.add(path.stem)
         elif path.suffix == ".antt" and path.name != "Proof.antt":
-            names = signatures(path.read_text())
-            (found.definitions if "specs" in path.parts else found.theorems).update(name for name, _ in names)
+            sort = found.definitions if "specs" in path.parts else found.theorems
+            sort.update(name for name, _ in signatures(path.read_text()))
         elif path.suffix == ".rt":
             kinds, functions = in_code(path.read_text())
             found.crates.add(crate)
@@ -106,7 +106,7 @@ def tables(text):
 
 def traced(root):
     """How many names docs/TRACE.md has: each is declared in the crates, in the way of its column, or is a file; and every edit stands there."""
-    text, there = (root / "docs" / "TRACE.md").read_text(), declared(root)
+    text, there = (root / "docs" / "TRACE.md").read_text(), names(root)
     is_file = lambda name: "/" in name and (root / name).is_file()
     by_column = {
         "definition": lambda name: name in there.definitions,
@@ -118,13 +118,14 @@ def traced(root):
         "refused in": lambda name: name in there.crates,
         "test": lambda name: name in there.crates | there.theorems or is_file(name),
     }
-    names = [(column, name) for column, cell in tables(text) for name in quoted(cell)]
-    demand(names, "docs/TRACE.md names nothing")
-    absent = [f"{name} ({column})" if column else name for column, name in names if not by_column.get(column, there.anything)(name) and not (column not in by_column and is_file(name))]
+    found = [(column, name) for column, cell in tables(text) for name in quoted(cell)]
+    demand(found, "docs/TRACE.md names nothing")
+    anything = lambda name: there.anything(name) or is_file(name)
+    absent = [f"{name} ({column})" if column else name for column, name in found if not by_column.get(column, anything)(name)]
     demand(not absent, "docs/TRACE.md names what is not declared: " + ", ".join(dict.fromkeys(absent)))
-    untraced = sorted(there.edits - {name for _, name in names})
+    untraced = sorted(there.edits - {name for _, name in found})
     demand(not untraced, "docs/TRACE.md lacks the must-fail edits " + ", ".join(untraced))
-    return len(set(names))
+    return len(set(found))
 
 
 # ---- the theorems of the demands
