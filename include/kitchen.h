@@ -173,7 +173,8 @@ uint32_t kitchen_find(const uint8_t *file, size_t file_len, const uint8_t *name,
 
 /* Whether two choice files are alike: all but their names agrees.
  * out: 1 if they are and 0 if not, 0 */
-uint32_t kitchen_compare(const uint8_t *a, size_t a_len, const uint8_t *b, size_t b_len, uint64_t out[2]);
+uint32_t kitchen_compare(const uint8_t *first, size_t first_len, const uint8_t *second, size_t second_len,
+                         uint64_t out[2]);
 
 #ifdef __cplusplus
 }

@@ -1,7 +1,8 @@
 """The checks of the gate, one function each. Called by ./test in the repository's root; docs/ARCHITECTURE.md says what each is for.
 
 A check returns how many things it saw pass, and raises Failed with the reason where one did not; its docstring is what
-`./test --list` says of it. One that finds nothing to look at fails: it has shown nothing. tests/run.py runs them.
+`./test --list` says of it. One that finds nothing to look at fails, and so does one that sees fewer things than
+tests/least.py says: it has shown nothing. tests/run.py runs them.
 """
 import ctypes
 import functools
@@ -15,11 +16,14 @@ import sys
 from collections import Counter
 from concurrent.futures import ThreadPoolExecutor
 
-from run import Failed, RtRun, demand, main
+import declared
+import edits as must_fail
+import interface as c_interface
+import least
+from interface import STRICT
+from run import Failed, RtRun, demand, enough, main, run
 
 ROOT = pathlib.Path(".")
-# A refusal that only says that the proof file no longer has the code's shape: it shows nothing about the contract.
-LOST_SHAPE = re.compile(r"has no `Need-|has no field")
 
 
 def crates():
@@ -33,7 +37,7 @@ def programs():
 
 
 def edits():
-    return sorted((ROOT / "crates").glob("*/must-fail/*.edit"))
+    return must_fail.labelled(ROOT)
 
 
 def verdict(name):
@@ -69,26 +73,38 @@ def prove_and_run():
 
 
 def refused_for_a_fact():
-    """Each must-fail edit was refused because a fact fails, not because a proof file lost its shape."""
-    demand(edits(), "there is no must-fail edit")
-    for edit in edits():
-        name, label = edit.parts[-3], edit.stem
-        log = ROOT / "target" / "must-fail" / name / label / ".log"
-        demand(log.exists(), f"{log} is missing")
-        errors = [line for line in log.read_text().splitlines() if " error: " in line]
-        # a function without a proof file has its failed fact in a note, and the first error is its caller's, if it has one
-        first = errors[0] if errors else "was not admitted"
-        demand(not LOST_SHAPE.search(first), f"{name}/{label} only lost the proof's shape: {first}")
-        if "was not admitted" in first:
-            demand("it is not proved that" in log.read_text(), f"{name}/{label} names no fact that fails")
-    return len(edits())
+    """Each must-fail edit was refused because a fact fails, not because a proof file lost its shape or a definition its type."""
+    return must_fail.all_refused(ROOT)
+
+
+def edits_say_where():
+    """Each must-fail edit changes code or definitions, and says at which input the wrong program answers otherwise, or which row of the proved table it breaks."""
+    return must_fail.all_said(ROOT)
+
+
+def counts():
+    """There are no fewer crates, programs, edits, rows of the proved table, theorems of the demands, and calls than tests/least.py says."""
+    there = {
+        "crates": len(crates()),
+        "programs": len(programs()),
+        "must-fail edits": len(edits()),
+        "crates with must-fail edits": len({edit.parts[-3] for edit in edits()}),
+        "rows of the proved table": len(must_fail.rows((ROOT / must_fail.TABLE).read_text())),
+        "theorems of the demands": len(declared.of_the_demands((ROOT / "docs" / "TRACE.md").read_text())),
+        "functions of the header": len(c_interface.declarations((ROOT / "include" / "kitchen.h").read_text())),
+        "scripts of the second program": len(list((ROOT / "reference").glob("*.py"))),
+        "sample jobs": len(list((ROOT / "jobs").glob("*.txt"))),
+    }
+    print(", ".join(f"{name}: {count}" for name, count in there.items()), flush=True)
+    demand(set(there) == set(least.THERE), f"tests/least.py counts {sorted(least.THERE)}")
+    enough(there, least.THERE)
+    return len(there)
 
 
 def layout():
     """Every file of Rattle is in the layout of rt fmt (rt fmt --check)."""
-    run = subprocess.run(["rt", "fmt", "--check"], stdin=subprocess.DEVNULL, capture_output=True, text=True)
-    demand(run.returncode == 0, "rt fmt --check: " + (run.stdout + run.stderr).strip())
-    return 1
+    run(["rt", "fmt", "--check"])
+    return sum(path.suffix in (".rt", ".antt") for path in (ROOT / "crates").rglob("*"))
 
 
 def nothing_foreign():
@@ -99,94 +115,88 @@ def nothing_foreign():
     return len(crates())
 
 
+def assumed(verdict):
+    """How many C functions a verdict assumes. rt counts them where something is built to run, and says so by `target=`."""
+    demand(" target=" in verdict, f"this verdict counts no C functions: {verdict}")
+    counted = re.search(r"\baxioms=(\d+)", verdict)
+    return int(counted[1]) if counted else 0
+
+
 def assumptions_as_stated():
-    """Each program assumes as many C functions as README.md says, in a row with `NAME` and `axioms=N`."""
-    readme = (ROOT / "README.md").read_text()
-    demand(programs(), "there is no program")
-    for name in programs():
-        stated = re.search(rf"`{name}`[^\n]*`axioms=(\d+)`", readme)
-        demand(stated, f"README.md does not state the axioms of {name}")
-        counted = re.search(r"\baxioms=(\d+)", verdict(name))
-        counted = counted[1] if counted else "0"
-        demand(stated[1] == counted, f"README.md states axioms={stated[1]} of {name}, the check counts {counted}")
-    return len(programs())
+    """Each program, and the C library, assumes as many C functions as README.md says, in a row with its name and `axioms=N`; the library none."""
+    built_library()  # rt counts what a library assumes only where it makes an archive of it
+    counted = {"libkitchen": assumed(verdict("capi")), **{name: assumed(verdict(name)) for name in programs()}}
+    stated = re.findall(r"^\| `(\w+)`[^\n]*`axioms=(\d+)`", (ROOT / "README.md").read_text(), re.M)
+    demand(sorted(stated) == sorted((name, str(count)) for name, count in counted.items()), f"README.md states {stated}, the check counts {counted}")
+    demand(counted["libkitchen"] == 0, "the C library assumes C functions")
+    return len(counted)
 
 
 def trace():
-    """Every name in docs/TRACE.md stands in crates/ or is a file of the repository, and every must-fail edit stands in docs/TRACE.md."""
-    text = (ROOT / "docs" / "TRACE.md").read_text()
-    names = sorted({part for quoted in re.findall(r"`([^`\n]+)`", text) for part in quoted.split("::")})
-    demand(names, "docs/TRACE.md names nothing")
-    files = [path for path in (ROOT / "crates").rglob("*") if path.is_file()]
-    words = set(crates()) | {path.stem for path in files}
-    for path in files:
-        words.update(re.findall(r"[^\s()\[\]{}.,;:`\"@]+", path.read_text()))
-    absent = [name for name in names if name not in words and not (ROOT / name).exists()]
-    demand(not absent, "docs/TRACE.md names what is not there: " + ", ".join(absent))
-    untraced = [edit.stem for edit in edits() if f"`{edit.stem}`" not in text]
-    demand(not untraced, "docs/TRACE.md lacks the must-fail edits " + ", ".join(untraced))
-    return len(names)
+    """Every name in docs/TRACE.md is declared in crates/ or is a file of the repository, and every must-fail edit stands in docs/TRACE.md."""
+    return declared.traced(ROOT)
+
+
+def promises():
+    """The theorems of the demands in docs/TRACE.md are those that Demands.antt declares, and Promises.antt, which the checker reads, imports each."""
+    return declared.promised(ROOT)
 
 
 def documents():
-    """Every crate has its paragraph in docs/ARCHITECTURE.md, and every relative link of the documents leads to a file."""
-    for name in crates():
-        demand(f"### `{name}`" in (ROOT / "docs" / "ARCHITECTURE.md").read_text(), f"docs/ARCHITECTURE.md has no paragraph on {name}")
+    """Every crate has its paragraph in docs/ARCHITECTURE.md and every check its row, and every relative link of the documents leads to a file."""
+    text = (ROOT / "docs" / "ARCHITECTURE.md").read_text()
+    wanted = [*(f"\n### `{name}`\n" for name in crates()), *(f"\n| `{name}` | " for name in least.CHECKS)]
+    absent = [words.strip() for words in wanted if words not in text]
+    demand(not absent, f"docs/ARCHITECTURE.md lacks {', '.join(absent)}")
     links = 0
     for page in [ROOT / "README.md", *sorted((ROOT / "docs").rglob("*.md"))]:
         for target in re.findall(r"\]\(([^)#\s]+)[^)]*\)", page.read_text()):
             demand("://" in target or (page.parent / target).exists(), f"{page}: no file {target}")
             links += 1
     demand(links, "the documents have no link")
-    return len(crates()) + links
+    return len(wanted) + links
+
+
+def scripts(root, programs):
+    """The scripts that print what a program has to print, by the program. Each program has one, and what they share is there."""
+    script_of = {name: name.removeprefix("show_") for name in programs}
+    wanted = {*script_of.values(), "beside", "drawn", "library", "long", "reader", "rules"}
+    found = {path.stem for path in (root / "reference").glob("*.py")}
+    demand(found == wanted, f"reference/ lacks {sorted(wanted - found)}, and has {sorted(found - wanted)} beyond what is known")
+    return {name: root / "reference" / f"{stem}.py" for name, stem in script_of.items() if stem != name}
 
 
 def second_program():
-    """What reference/ says that a program prints is what the program, just built, prints."""
+    """What reference/ says that a program prints is what the program, just built, prints; no script is missing there."""
     compared = 0
-    scripts = sorted((ROOT / "reference").glob("*.py"))
-    imported = {module for script in scripts for module in re.findall(r"^from (\w+) import", script.read_text(), re.M)}
-    for script in scripts:
-        name = f"show_{script.stem}"
-        if name not in programs() and script.stem in imported:
-            continue  # what several of them share
-        if script.stem in programs() or script.stem == "beside":
-            continue  # it runs ours itself: kitchen_prints, beside
-        demand(name in programs(), f"reference/{script.name} is about a program {name}, which is not there")
-        expected = subprocess.run([sys.executable, "-B", str(script)], stdin=subprocess.DEVNULL, capture_output=True, text=True)
-        demand(expected.returncode == 0, f"reference/{script.name}: " + expected.stderr.strip())
-        printed = subprocess.run([f"target/bin/{name}"], stdin=subprocess.DEVNULL, capture_output=True, text=True)
-        demand(printed.returncode == 0, f"{name} ended with status {printed.returncode}")
-        ours, theirs = printed.stdout.splitlines(), expected.stdout.splitlines()
-        demand(theirs, f"reference/{script.name} prints nothing")
+    for name, script in scripts(ROOT, programs()).items():  # kitchen_prints and beside run the others
+        expected = run([sys.executable, "-B", str(script)])
+        printed = run([f"target/bin/{name}"])
+        ours, theirs = printed.splitlines(), expected.splitlines()
+        demand(theirs, f"{script} prints nothing")
         for number, (a, b) in enumerate(zip(ours, theirs), 1):
-            demand(a == b, f"line {number}: {name} prints '{a}', reference/{script.name} '{b}'")
-        demand(printed.stdout == expected.stdout, f"{name} prints {len(ours)} lines, reference/{script.name} {len(theirs)}")
+            demand(a == b, f"line {number}: {name} prints '{a}', {script} '{b}'")
+        demand(printed == expected, f"{name} prints {len(ours)} lines, {script} {len(theirs)}")
         compared += len(theirs)
     demand(compared, "reference/ has no program")
     return compared
 
 
-def run(command, status=0):
-    """What a command prints; it has to end with this status."""
-    done = subprocess.run(command, stdin=subprocess.DEVNULL, capture_output=True, text=True)
-    demand(done.returncode == status, f"{' '.join(command)} ended with status {done.returncode}: {(done.stdout + done.stderr).strip()[-2000:]}")
-    return done.stdout
+def counts_in(printed):
+    """The counts in lines of `what: count, ..`."""
+    return {name.strip(): int(count) for name, count in re.findall(r"([a-z0-9_ ]+): (\d+)", printed)}
 
 
 def counted(printed, wanted):
-    """The counts in a line of `what: count, ..`, which is printed; all that is wanted is among them."""
+    """The counts in what was printed, which is printed here; of all that is wanted there are as many as tests/least.py says."""
     print(printed.strip(), flush=True)
-    counts = {name.strip(): int(count) for name, count in re.findall(r"([a-z0-9 ]+): (\d+)", printed)}
-    missing = [name for name in wanted if not counts.get(name)]
-    demand(not missing, "nothing was compared of: " + ", ".join(missing))
-    return counts
+    enough(counts_in(printed), wanted)
+    return counts_in(printed)
 
 
 def kitchen_prints():
     """What kitchen prints of many files, good, damaged and cut, is what reference/kitchen.py says; every outcome is among them."""
-    wanted = ["chosen", *(f"plans of {n}" for n in range(6)), *(f"refused {n}" for n in (1, 2, 3, 4, 5, 6, 7, 8, 14, 15))]
-    return sum(counted(run([sys.executable, "-B", "reference/kitchen.py", "target/bin/kitchen"]), wanted).values())
+    return sum(counted(run([sys.executable, "-B", "reference/kitchen.py", "target/bin/kitchen"]), least.KITCHEN_PRINTS).values())
 
 
 @functools.cache
@@ -199,9 +209,6 @@ def built_library():
 def fed(command, file, status=0):
     """What a command prints that has this file on its standard input."""
     return run(["sh", "-c", 'exec "$@" <"$0"', str(file), *command], status)
-
-
-STRICT = ["-Wall", "-Wextra", "-Werror", "-pedantic", "-I", "include"]
 
 
 def sample(name):
@@ -233,12 +240,10 @@ def one_number(stated, capi, shared):
     demand(constant == [stated] and returned == stated, f"the number is {stated} in the header, {constant} in capi, and {returned} when it is called")
 
 
-def one_set_of_names(declared, capi, shared):
-    """The header declares each function of capi once, and the shared library has them and no others to be seen."""
-    marked = re.findall(r'pub extern "C" fn (\w+)\(', capi)
+def one_set_of_names(functions, shared):
+    """The shared library has the functions of the header and no others to be seen."""
     exported = re.findall(r" T (\w+)$", run(["nm", "-D", "--defined-only", shared]), re.M)
-    demand(len(declared) == 10 and sorted(declared) == sorted(marked), f"the header declares {declared}, capi has {marked}")
-    demand(sorted(declared) == sorted(exported), f"the header declares {declared}, the shared library has {exported}")
+    demand(sorted(functions) == sorted(exported), f"the header declares {functions}, the shared library has {exported}")
 
 
 def named_numbers(text, shared):
@@ -259,12 +264,14 @@ def named_numbers(text, shared):
 
 
 def header():
-    """include/kitchen.h declares the functions of capi and no others, has its number, its reasons and its limits, and is plain C; the two programs in it run."""
+    """include/kitchen.h declares the functions of capi with their types and no others, has its number, its reasons and its limits, and is plain C; the two programs in it run."""
     text, number = interface()
     capi = (ROOT / "crates" / "capi" / "src" / "lib.rt").read_text()
-    declared = re.findall(r"^uint32_t (kitchen_\w+)\(", text, re.M)
+    functions = list(c_interface.declarations(text))
+    c_interface.same_prototypes(text, capi)
+    c_interface.compiled(capi, ROOT / "target")
     archive, shared = built_library()
-    one_set_of_names(declared, capi, shared)
+    one_set_of_names(functions, shared)
     one_number(number, capi, shared)
     named = named_numbers(text, shared)
     run(["cc", "-std=c99", *STRICT, "-fsyntax-only", "-x", "c", "include/kitchen.h"])
@@ -274,7 +281,17 @@ def header():
     run(["cc", "-std=c99", *STRICT, "target/first.c", archive, "-o", "target/first"])
     first_program(["target/first"])
     first_program([sys.executable, "-B", "target/first.py"])
-    return len(declared) + named + 2
+    return len(functions) + named + 2
+
+
+def every_call():
+    """tests/every_call.c calls every function of the header on the examples of the rules; answers and buffers are as known."""
+    archive, _ = built_library()
+    run(["cc", "-std=c99", *STRICT, "tests/every_call.c", archive, "-o", "target/every_call"])
+    counts = counted(run(["target/every_call"]), least.EVERY_CALL)
+    functions = c_interface.declarations((ROOT / "include" / "kitchen.h").read_text())
+    demand(sorted(counts) == sorted(functions), f"the header declares {sorted(functions)}, and {sorted(counts)} are called")
+    return sum(counts.values())
 
 
 def shown(text):
@@ -438,17 +455,12 @@ def processor_seconds():
 
 
 def beside():
-    """The second program beside ours through the C interface: at least 20,000 comparisons in three minutes of processor time, and every sort of them."""
+    """The second program beside ours through the C interface, in three minutes of processor time: every sort of comparison, as often as tests/least.py says."""
     shared = built_library()[1]
     before = processor_seconds()
     printed = run([sys.executable, "-B", "reference/beside.py", shared])
     seconds = processor_seconds() - before
-    wanted = [f"refused {n}" for n in range(1, 17)] + [f"plans of {n}" for n in range(6)] + ["plans with step 31"]
-    wanted += ["passes that struck", "floors that mattered", "choices that set aside", "layers with mutexes"]
-    wanted += ["choices of article 63", "choices that set article 63 aside"]
-    wanted += ["names given", "names found", "alike though not the same", "null slices", "long searches"]
-    counts = counted(printed, wanted)
-    demand(counts["comparisons"] >= 20_000, f"only {counts['comparisons']} comparisons")
+    counts = counted(printed, least.BESIDE)
     demand(seconds < 180, f"the comparisons took {seconds:.0f} seconds")
     return counts["comparisons"]
 
@@ -462,10 +474,13 @@ def faults():
     return 6
 
 
-def checks_of(script):
-    """How many checks a script of tests/ made; all but its last line is printed."""
-    *lines, last = run([sys.executable, "-B", f"tests/{script}.py"]).splitlines()
-    print("".join(line + "\n" for line in lines), end="", flush=True)
+def checks_of(script, parts=None):
+    """How many checks a script of tests/ made; all but its last line is printed, and has the parts that are wanted."""
+    said, _, last = run([sys.executable, "-B", f"tests/{script}.py"]).rstrip().rpartition("\n")
+    if said:
+        print(said, flush=True)
+    if parts:
+        enough(counts_in(said), parts)
     return int(re.fullmatch(r"(\d+) checks", last)[1])
 
 
@@ -486,7 +501,7 @@ def first_command():
 def showroom():
     """tests/showroom.py: what tools/job and host/kitchen.py answer, beside the second program, brute force and lying stand-ins."""
     built_library()
-    return checks_of("showroom")
+    return checks_of("showroom", least.SHOWROOM)
 
 
 def showroom_faults():
@@ -516,17 +531,24 @@ def small_stack():
     return len(run.stdout.splitlines())
 
 
+def foolings():
+    """tests/foolings.py: each way to fool the gate that was found is planted, and the gate finds it."""
+    built_library()
+    return checks_of("foolings")
+
+
 def runner():
     """tests/runner.py: ./test and ./bench touch nothing where they are asked wrongly or for help, and what fails is counted."""
     return checks_of("runner")
 
 
 CHECKS = [
-    *(prove_and_run, refused_for_a_fact, layout, nothing_foreign, assumptions_as_stated, trace, documents, second_program),
-    *(kitchen_prints, small_stack, header, hosts, beside, faults, tool, first_command, showroom, showroom_faults, page, runner),
+    *(prove_and_run, refused_for_a_fact, edits_say_where, counts, layout, nothing_foreign, assumptions_as_stated, trace, promises, documents),
+    *(second_program, kitchen_prints, small_stack, header, every_call, hosts, beside, faults, tool, first_command),
+    *(showroom, showroom_faults, page, runner, foolings),
 ]
 # Pairs of a check and a further tool that it needs. They are run where the tool is there, and counted apart.
 EXTRA = [(as_cpp, "c++"), (rust, "rustc"), (installed, "make"), (dist, "make")]
 
 if __name__ == "__main__":
-    sys.exit(main(CHECKS, EXTRA, each=prove_and_run))
+    sys.exit(main(CHECKS, EXTRA, each=prove_and_run, least=least.CHECKS))

@@ -1,7 +1,8 @@
 """How the checks of tests/gate.py are run: the arguments of ./test, the progress of rt, the summary.
 
 A check is a function whose docstring says in one sentence what it sees. It returns how many things it saw pass,
-and raises Failed with the reason where one did not. A check that breaks, or saw nothing, has not passed.
+and raises Failed with the reason where one did not. A check that breaks, or saw nothing, or saw fewer things than
+tests/least.py says, has not passed.
 """
 import argparse
 import dataclasses
@@ -25,6 +26,19 @@ class Failed(Exception):
 def demand(condition, reason):
     if not condition:
         raise Failed(reason)
+
+
+def enough(seen, least):
+    """Of each thing that has a least count, at least so many were seen."""
+    few = [f"{name}: {seen.get(name, 0)} and not {count}" for name, count in least.items() if seen.get(name, 0) < count]
+    demand(least and not few, "fewer than tests/least.py says; " + ", ".join(few))
+
+
+def run(command, status=0):
+    """What a command prints; it has to end with this status."""
+    done = subprocess.run(command, stdin=subprocess.DEVNULL, capture_output=True, text=True)
+    demand(done.returncode == status, f"{' '.join(command)} ended with status {done.returncode}: {(done.stdout + done.stderr).strip()[-2000:]}")
+    return done.stdout
 
 
 # ---- a run of rt
@@ -94,6 +108,7 @@ def snapshot():
 @dataclasses.dataclass
 class Result:
     name: str
+    least: int = 0
     seen: int = 0
     seconds: float = 0.0
     fault: str = ""  # why it failed
@@ -102,15 +117,17 @@ class Result:
     def row(self):
         saw = "FAILED" if self.fault else "not tried" if self.lacks else self.seen
         reason = (self.fault or self.lacks).partition("\n")[0][:120]
-        return f"{self.name:24}{saw:>10}{self.seconds:10.1f}  {reason}".rstrip()
+        return f"{self.name:24}{saw:>10}{self.least:>10}{self.seconds:10.1f}  {reason}".rstrip()
 
 
-def tried(check):
-    """Runs a check, and says at once what came of it."""
-    result, began = Result(check.__name__), time.monotonic()
+def tried(check, least):
+    """Runs a check, and says at once what came of it. It has to see as many things as `least` says of it, and one at least."""
+    result, began = Result(check.__name__, least.get(check.__name__, 0)), time.monotonic()
     try:
         result.seen = check()
         demand(isinstance(result.seen, int) and result.seen > 0, "it looked at nothing")
+        demand(result.name in least, "tests/least.py does not say how many things it has to see")
+        enough({"it saw": result.seen}, {"it saw": result.least})
     except Failed as reason:
         result.fault = str(reason) or "it gives no reason"
     except (Exception, SystemExit) as trouble:  # a check that breaks has not passed
@@ -120,10 +137,10 @@ def tried(check):
     return result
 
 
-def tried_with(tool, check, named):
+def tried_with(tool, check, named, least):
     """Runs a check that needs a further tool. Without the tool it is not tried, which is a failure where it was named."""
     if shutil.which(tool):
-        return tried(check)
+        return tried(check, least)
     print(f"not tried {check.__name__}: {tool} is missing", flush=True)
     return Result(check.__name__, **{"fault" if named else "lacks": f"{tool} is missing"})
 
@@ -168,8 +185,9 @@ def further(results):
     return "with further tools: " + ", ".join(f"{len(names)} {what}" + (f" ({', '.join(names)})" if names else "") for what, names in counts)
 
 
-def main(checks, extra, each):
-    """Runs what the arguments ask for. Of the check `each` every thing that it saw counts, of the others the check."""
+def main(checks, extra, each, least):
+    """Runs what the arguments ask for. Of the check `each` every thing that it saw counts, of the others the check.
+    A check that `least` names and that is not there is a failure."""
     before = {}
 
     def leaves_the_tree_clean():
@@ -190,12 +208,14 @@ def main(checks, extra, each):
         print(f"test: missing: {', '.join(missing)}\n0 passed, {len(missing)} failed")
         return 1
 
+    absent = sorted(set(least) - {check.__name__ for check in everything})
     before.update(snapshot())
-    results = [tried(check) for check in checks if wanted(check)]
-    with_tools = [tried_with(tool, check, bool(given.check)) for check, tool in extra if wanted(check)]
-    last = [tried(leaves_the_tree_clean)] if wanted(leaves_the_tree_clean) else []
+    results = [tried(check, least) for check in checks if wanted(check)]
+    with_tools = [tried_with(tool, check, bool(given.check), least) for check, tool in extra if wanted(check)]
+    last = [tried(leaves_the_tree_clean, least)] if wanted(leaves_the_tree_clean) else []
+    last += [Result(name, least[name], fault="there is no such check, and tests/least.py names it") for name in absent]
 
-    print(f"\n{'check':24}{'saw':>10}{'seconds':>10}")
+    print(f"\n{'check':24}{'saw':>10}{'least':>10}{'seconds':>10}")
     for result in results + with_tools + last:
         print(result.row())
     if with_tools:

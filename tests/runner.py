@@ -62,13 +62,22 @@ def sees_nothing():
     return 0
 
 
+def sees_few():
+    """It looks at fewer things than it has to."""
+    return 2
+
+
 def writes():
     """It leaves a file behind."""
     open("stray", "w").close()
     return 1
 
 
-sys.exit(main([passes, fails, breaks, ends, sees_nothing, writes], [(FURTHER)], each=passes))
+CHECKS = [passes, fails, breaks, ends, sees_nothing, sees_few, writes]
+EXTRA = [(FURTHER)]
+LEAST = {check.__name__: 3 if check == sees_few else 1 for check in [*CHECKS, *(check for check, _ in EXTRA)]}
+LEAST["leaves_the_tree_clean"] = 1
+sys.exit(main(CHECKS, EXTRA, each=passes, least=LEAST))
 '''
 
 checks = 0
@@ -91,9 +100,10 @@ class Copy:
             path = self.root / name
             path.parent.mkdir(parents=True, exist_ok=True)
             path.write_text(text)
-        for name in ("test", "bench", "tests/gate.py", "tests/run.py"):
-            (self.root / name).parent.mkdir(exist_ok=True)
-            shutil.copy(HERE / name, self.root / name)
+        (self.root / "tests").mkdir()
+        for path in (HERE / "test", HERE / "bench", *sorted((HERE / "tests").glob("*.py"))):
+            shutil.copy(path, self.root / path.relative_to(HERE))
+        (self.root / "tests" / "least.py").write_text('CHECKS = {"prove_and_run": 3, "leaves_the_tree_clean": 1}\n')
         self.tools.mkdir()
         for name in ("rt", "cc", "rustc", "apt-get"):
             self.tool(name, STAND_IN)
@@ -171,6 +181,10 @@ def reports_of_rt(copy):
     equal(copy.result("prove_and_run", report=""), (1, "0 passed, 1 failed"), "rt says nothing")
     status, printed, _, _ = copy.run(["./test", "prove_and_run"], status=1)
     equal((status, "fn one::a: proved" in printed), (1, True), "rt's lines are printed where it failed")
+    few = copy.root / "tests" / "least.py"
+    few.write_text(few.read_text().replace("3", "4"))
+    equal(copy.result("prove_and_run"), (1, "0 passed, 1 failed"), "fewer crates and edits than there have to be")
+    few.write_text(few.read_text().replace("4", "3"))
     stray = copy.root / "crates" / "one" / "must-fail" / "forgotten.edi"
     stray.write_text("")
     equal(copy.result("prove_and_run"), (1, "0 passed, 1 failed"), "an edit that rt does not see")
@@ -190,23 +204,25 @@ def planted_checks(copy):
     kept.parent.mkdir(exist_ok=True)
     kept.write_text("")
     equal(copy.result("passes"), (0, "3 passed, 0 failed"), "a check that passes")
-    for name in ("fails", "breaks", "ends", "sees_nothing"):
+    for name in ("fails", "breaks", "ends", "sees_nothing", "sees_few"):
         equal(copy.result(name), (1, "0 passed, 1 failed"), f"a check that {name}")
     equal(copy.result("leaves_the_tree_clean", "passes"), (0, "4 passed, 0 failed"), "a run that writes nothing")
     equal(copy.result("leaves_the_tree_clean", "writes"), (1, "1 passed, 1 failed"), "a run that leaves a file")
     (copy.root / "stray").unlink()
-    equal(copy.result(), (1, "4 passed, 5 failed"), "all of them")
+    equal(copy.result(), (1, "4 passed, 6 failed"), "all of them")
     (copy.root / "stray").unlink()
     equal(kept.exists(), True, "target/ is kept")
 
-    gate_file.write_text(PLANTED.replace("(FURTHER)", '(writes, "sh"), (ends, "no-such-tool")').replace("fails, breaks, ends, sees_nothing, writes", ""))
+    gate_file.write_text(PLANTED.replace("(FURTHER)", '(writes, "sh"), (ends, "no-such-tool")').replace("fails, breaks, ends, sees_nothing, sees_few, writes", ""))
     (copy.root / "stray").write_text("")
     printed = copy.run(["./test"])[1].splitlines()
     equal(printed[-2:], ["with further tools: 1 passed (writes), 1 not tried (ends: no-such-tool is missing)", "4 passed, 0 failed"], "further tools")
     equal(copy.result("ends"), (1, "0 passed, 1 failed"), "a check that is named and can't be tried")
-    gate_file.write_text(PLANTED.replace("(FURTHER)", '(fails, "sh")').replace("fails, breaks, ends, sees_nothing, writes", ""))
+    gate_file.write_text(PLANTED.replace("(FURTHER)", '(fails, "sh")').replace("fails, breaks, ends, sees_nothing, sees_few, writes", ""))
     printed = copy.run(["./test"])[1].splitlines()
     equal(printed[-2:], ["with further tools: 0 passed, 1 failed (fails), 0 not tried", "4 passed, 1 failed"], "a further check that fails")
+    gate_file.write_text(PLANTED.replace("(FURTHER)", "").replace('LEAST["leaves', 'LEAST["gone"] = 1\nLEAST["leaves'))
+    equal(copy.result("passes"), (1, "3 passed, 1 failed"), "a check that is gone, and has to see something")
 
 
 def peers_of_the_bench(copy):

@@ -1,0 +1,216 @@
+/* Makes every call of kitchen.h on the examples of docs/RULES.md, by the bytes of their files, and compares what it returns,
+ * both words of `out` and all of the buffer with what the rules say; every reason is among them, by the header's name.
+ *
+ * It prints how many answers of each call were as they have to be, and ends with 0; or what is not, and ends with 1. */
+#include "kitchen.h"
+
+#include <stdio.h>
+
+#define BYTES(...) ((const uint8_t[]){__VA_ARGS__})
+#define SLICE(array) (array), sizeof(array) / sizeof(array)[0]
+#define EIGHT(low) low, 0, 0, 0, 0, 0, 0, 0
+#define FOUR(low) low, 0, 0, 0
+
+/* the articles 0 with wish 0; 1 with wish 1, clashing with 0; 2 with wishes 0 and 1; order {0, 1} */
+#define OF_A 67, 3, 2, EIGHT(3), 1, EIGHT(1), 3, EIGHT(2), EIGHT(1), 1, EIGHT(3)
+static const uint8_t A[] = {OF_A}, A_LONGER[] = {OF_A, 0};
+/* the same, where article 2 has the name "ab" */
+static const uint8_t A_NAMED[] = {67, 3, 2, EIGHT(3), 1, EIGHT(1), 3, EIGHT(2), EIGHT(1), 5, EIGHT(3), 2, 'a', 'b'};
+/* the articles 0 with wish 0; 1 with wishes 0 and 1, clashing with 0; 2 with wish 2; order {0, 1, 2} */
+static const uint8_t B[] = {67, 3, 3, EIGHT(7), 1, EIGHT(1), 3, EIGHT(3), EIGHT(1), 1, EIGHT(4)};
+/* the steps 0: needs 0, gives 1, takes 0; 1: needs 1, gives 2; 2: needs 1, gives 3; start {0}, goal {2, 3} */
+#define OF_F(horizon) 70, 3, 4, horizon, FOUR(1), FOUR(12), 7, FOUR(1), FOUR(2), FOUR(1), 3, FOUR(2), FOUR(4), 3, FOUR(2), FOUR(8)
+static const uint8_t F[] = {OF_F(3)}, F_NEAR[] = {OF_F(1)};
+/* the steps 0: gives 0; 1: gives 1, takes 0; start empty, goal {0, 1}, horizon 2 */
+static const uint8_t G[] = {70, 2, 2, 2, FOUR(0), FOUR(3), 2, FOUR(1), 6, FOUR(2), FOUR(1)};
+/* files that are refused */
+static const uint8_t FORBIDDEN[] = {67, 1, 1, EIGHT(0), 8}, EMPTY_FIELD[] = {67, 1, 1, EIGHT(0), 1, EIGHT(0)};
+static const uint8_t ABSENT[] = {67, 0, 1, EIGHT(2)}, LONG_NAME[] = {67, 1, 0, EIGHT(0), 4, KITCHEN_NAME_BYTES + 1};
+static const uint8_t NO_NAME[] = {67, 1, 0, EIGHT(0), 4, KITCHEN_NAME_BYTES}, MANY[] = {67, KITCHEN_ARTICLES + 1, 0, EIGHT(0)};
+
+static const uint8_t GROUPS[] = {0, 0, 1};
+static uint64_t out[2];
+static int faults;
+
+enum { NINE = 9, MOST = 70 };
+static uint8_t bytes[MOST];
+static uint32_t words[MOST];
+static uint64_t wide[MOST];
+
+/* Buffers of nines, and words of `out` that no call returns. */
+static void clear(void)
+{
+    for (int i = 0; i < MOST; i++)
+        bytes[i] = NINE, words[i] = NINE, wide[i] = NINE;
+    out[0] = out[1] = NINE * 111;
+}
+
+/* What each buffer has to hold: so many elements from the front, then zeros up to an index, and nines from there on. */
+static int holds(const uint64_t *front, int count, int zeros, uint64_t element, int i)
+{
+    return element == (i < count ? front[i] : i < zeros ? 0 : NINE);
+}
+
+static int kept(const uint64_t *front, int count, int zeros, int which)
+{
+    for (int i = 0; i < MOST; i++) {
+        int all = holds(front, which == 1 ? count : 0, which == 1 ? zeros : 0, bytes[i], i)
+            && holds(front, which == 4 ? count : 0, which == 4 ? zeros : 0, words[i], i)
+            && holds(front, which == 8 ? count : 0, which == 8 ? zeros : 0, wide[i], i);
+        if (!all)
+            return 0;
+    }
+    return 1;
+}
+
+/* One call: what it returned, the words of `out`, and what the buffer whose elements have `which` bytes holds from the front. */
+static void see(int line, uint32_t found, uint32_t status, uint64_t first, uint64_t second, int which, const uint64_t *front, int count, int zeros)
+{
+    if (found == status && out[0] == first && out[1] == second && kept(front, count, zeros, which))
+        return;
+    printf("tests/every_call.c:%d: returned %u, out %llu %llu; expected %u, %llu %llu, and buffers as the rules say\n", line, (unsigned)found,
+           (unsigned long long)out[0], (unsigned long long)out[1], (unsigned)status, (unsigned long long)first, (unsigned long long)second);
+    faults++;
+}
+
+#define NUMBERS(...) ((const uint64_t[]){__VA_ARGS__})
+/* a call that fills the front of a buffer, and one that touches none */
+#define FILLS(call, first, which, zeros, ...) \
+    (clear(), see(__LINE__, call, KITCHEN_ANSWERED, first, 0, which, NUMBERS(__VA_ARGS__), (int)(sizeof NUMBERS(__VA_ARGS__) / sizeof(uint64_t)), zeros), seen++)
+#define GIVES(call, status, first, second) (clear(), see(__LINE__, call, status, first, second, 0, NULL, 0, 0), seen++)
+
+static int version(void)
+{
+    int seen = 0;
+    out[0] = 0;
+    if (kitchen_version() == KITCHEN_VERSION)
+        seen++;
+    else
+        faults++;
+    return seen;
+}
+
+static int partition(void)
+{
+    int seen = 0;
+    FILLS(kitchen_partition(SLICE(A), bytes, 4, out), 0, 1, 0, 0, 0, 1);
+    FILLS(kitchen_partition(SLICE(B), bytes, 3, out), 0, 1, 0, 0, 0, 1);
+    FILLS(kitchen_partition(SLICE(A_NAMED), bytes, KITCHEN_ARTICLES, out), 0, 1, 0, 0, 0, 1);
+    GIVES(kitchen_partition(SLICE(A), bytes, 2, out), KITCHEN_SHORT_BUFFER, 0, 0);
+    GIVES(kitchen_partition(A, sizeof A - 1, bytes, 4, out), KITCHEN_ENDS_EARLY, 45, 0);
+    GIVES(kitchen_partition(SLICE(A_LONGER), bytes, 4, out), KITCHEN_TRAILING_BYTES, 46, 0);
+    GIVES(kitchen_partition(SLICE(MANY), bytes, MOST, out), KITCHEN_OVER_LIMIT, 1, 0);
+    GIVES(kitchen_partition(SLICE(FORBIDDEN), bytes, MOST, out), KITCHEN_FORBIDDEN_BIT, 11, 0);
+    GIVES(kitchen_partition(SLICE(EMPTY_FIELD), bytes, MOST, out), KITCHEN_EMPTY_FIELD, 12, 0);
+    GIVES(kitchen_partition(SLICE(ABSENT), bytes, MOST, out), KITCHEN_ABSENT_MEMBER, 3, 0);
+    GIVES(kitchen_partition(SLICE(LONG_NAME), bytes, MOST, out), KITCHEN_LONG_NAME, 12, 0);
+    GIVES(kitchen_partition(SLICE(NO_NAME), bytes, MOST, out), KITCHEN_ENDS_EARLY, 13, 0);
+    GIVES(kitchen_partition(SLICE(F), bytes, MOST, out), KITCHEN_WRONG_KIND, 0, 0);
+    GIVES(kitchen_partition(NULL, 0, bytes, MOST, out), KITCHEN_WRONG_KIND, 0, 0);
+    return seen;
+}
+
+static int pass(void)
+{
+    int seen = 0;
+    GIVES(kitchen_pass(SLICE(B), SLICE(GROUPS), 7, 7, out), 0, 6, 0);
+    GIVES(kitchen_pass(SLICE(B), SLICE(GROUPS), 7, 1, out), 0, 7, 0);
+    GIVES(kitchen_pass(SLICE(B), SLICE(GROUPS), 1, 7, out), 0, 0, 0);
+    GIVES(kitchen_pass(SLICE(B), GROUPS, 2, 7, 7, out), KITCHEN_SHORT_BUFFER, 0, 0);
+    GIVES(kitchen_pass(SLICE(B), SLICE(BYTES(0, 0, 0)), 7, 7, out), KITCHEN_FALSE_PARTITION, 2, 0);
+    GIVES(kitchen_pass(SLICE(B), SLICE(GROUPS), 8, 7, out), KITCHEN_ABSENT_ARTICLE, 0, 0);
+    GIVES(kitchen_pass(SLICE(B), SLICE(GROUPS), 7, 8, out), KITCHEN_WRONG_GOAL, 0, 0);
+    return seen;
+}
+
+static int choose(void)
+{
+    int seen = 0;
+    const uint64_t goals[] = {3, 3, 8};
+    GIVES(kitchen_choose(SLICE(A), SLICE(GROUPS), goals, 1, 0, out), 0, 4, 0);
+    GIVES(kitchen_choose(SLICE(A), SLICE(GROUPS), goals, 2, 5, out), 0, 5, 0);
+    GIVES(kitchen_choose(SLICE(A), SLICE(GROUPS), NULL, 0, 6, out), 0, 6, 0);
+    GIVES(kitchen_choose(SLICE(A), SLICE(GROUPS), goals, 1, 7, out), KITCHEN_NO_SELECTION, 0, 0);
+    GIVES(kitchen_choose(SLICE(A), SLICE(GROUPS), goals, 3, 0, out), KITCHEN_WRONG_GOAL, 2, 0);
+    GIVES(kitchen_choose(SLICE(B), SLICE(GROUPS), NUMBERS(7), 1, 0, out), 0, 6, 1);
+    GIVES(kitchen_choose(SLICE(BYTES(67, 0, 0, EIGHT(0))), NULL, 0, NULL, 0, 0, out), 0, 0, 0);
+    return seen;
+}
+
+static int fact_layer(void)
+{
+    int seen = 0;
+    FILLS(kitchen_fact_layer(SLICE(G), 1, words, KITCHEN_FACT_WORDS + 1, out), 3, 4, KITCHEN_FACT_WORDS, 2, 1);
+    FILLS(kitchen_fact_layer(SLICE(G), 2, words, KITCHEN_FACT_WORDS, out), 3, 4, KITCHEN_FACT_WORDS, 0, 0);
+    FILLS(kitchen_fact_layer(SLICE(F), 0, words, KITCHEN_FACT_WORDS, out), 1, 4, KITCHEN_FACT_WORDS, 0);
+    GIVES(kitchen_fact_layer(SLICE(G), 3, words, KITCHEN_FACT_WORDS, out), KITCHEN_ABSENT_LAYER, 0, 0);
+    GIVES(kitchen_fact_layer(SLICE(G), 1, words, KITCHEN_FACT_WORDS - 1, out), KITCHEN_SHORT_BUFFER, 0, 0);
+    return seen;
+}
+
+static int round_layer(void)
+{
+    int seen = 0;
+    const uint64_t step = (uint64_t)1 << 32;
+    FILLS(kitchen_round_layer(SLICE(F), 1, wide, KITCHEN_ROUND_WORDS, out), 1 + step, 8, KITCHEN_ROUND_WORDS, [0] = step, [32] = 1);
+    FILLS(kitchen_round_layer(SLICE(G), 1, wide, KITCHEN_ROUND_WORDS + 1, out), 3 * step, 8, KITCHEN_ROUND_WORDS, [32] = 2 * step, step);
+    GIVES(kitchen_round_layer(SLICE(G), 0, wide, KITCHEN_ROUND_WORDS, out), KITCHEN_ABSENT_LAYER, 0, 0);
+    GIVES(kitchen_round_layer(SLICE(G), 1, wide, KITCHEN_ROUND_WORDS - 1, out), KITCHEN_SHORT_BUFFER, 0, 0);
+    return seen;
+}
+
+static int plan(void)
+{
+    int seen = 0;
+    FILLS(kitchen_plan(SLICE(F), words, 3, out), 2, 4, 0, 1, 6);
+    FILLS(kitchen_plan(SLICE(G), words, KITCHEN_ROUNDS, out), 2, 4, 0, 2, 1);
+    GIVES(kitchen_plan(SLICE(F_NEAR), words, 3, out), KITCHEN_NO_PLAN, 0, 0);
+    GIVES(kitchen_plan(SLICE(F), words, 2, out), KITCHEN_SHORT_BUFFER, 0, 0);
+    GIVES(kitchen_plan(SLICE(A), words, 3, out), KITCHEN_WRONG_KIND, 0, 0);
+    return seen;
+}
+
+static int name(void)
+{
+    int seen = 0;
+    GIVES(kitchen_name(SLICE(A_NAMED), 2, out), 0, 47, 2);
+    GIVES(kitchen_name(SLICE(A_NAMED), 1, out), 0, 0, 0);
+    GIVES(kitchen_name(SLICE(A_NAMED), 3, out), 0, 0, 0);
+    GIVES(kitchen_name(A_NAMED, sizeof A_NAMED - 1, 2, out), 0, 0, 0);
+    return seen;
+}
+
+static int find(void)
+{
+    int seen = 0;
+    GIVES(kitchen_find(SLICE(A_NAMED), SLICE(BYTES('a', 'b')), out), 0, 2, 0);
+    GIVES(kitchen_find(SLICE(A_NAMED), SLICE(BYTES('a')), out), KITCHEN_NO_NAME, 0, 0);
+    GIVES(kitchen_find(SLICE(A_NAMED), NULL, 0, out), KITCHEN_NO_NAME, 0, 0);
+    GIVES(kitchen_find(A_NAMED, sizeof A_NAMED - 1, SLICE(BYTES('a', 'b')), out), KITCHEN_ENDS_EARLY, 48, 0);
+    return seen;
+}
+
+static int compare(void)
+{
+    int seen = 0;
+    GIVES(kitchen_compare(SLICE(A), SLICE(A_NAMED), out), 0, 1, 0);
+    GIVES(kitchen_compare(SLICE(A), SLICE(B), out), 0, 0, 0);
+    GIVES(kitchen_compare(A, sizeof A - 1, SLICE(F), out), KITCHEN_ENDS_EARLY, 45, 0);
+    GIVES(kitchen_compare(SLICE(A), SLICE(F), out), KITCHEN_WRONG_KIND, 0, 0);
+    return seen;
+}
+
+int main(void)
+{
+    printf("kitchen_version: %d, ", version());
+    printf("kitchen_partition: %d, ", partition());
+    printf("kitchen_pass: %d, ", pass());
+    printf("kitchen_choose: %d, ", choose());
+    printf("kitchen_fact_layer: %d, ", fact_layer());
+    printf("kitchen_round_layer: %d, ", round_layer());
+    printf("kitchen_plan: %d, ", plan());
+    printf("kitchen_name: %d, ", name());
+    printf("kitchen_find: %d, ", find());
+    printf("kitchen_compare: %d\n", compare());
+    return faults ? 1 : 0;
+}

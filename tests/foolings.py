@@ -1,0 +1,366 @@
+"""Ways to fool the gate, each planted in a scratch copy or in a text: the gate has to find every one.
+
+Called as `python3 -B tests/foolings.py` in the repository's root, where tools/library has built the library. The last line is
+`N checks`, and the status 0; or what failed is printed, and the status is 1.
+"""
+import contextlib
+import io
+import pathlib
+import shutil
+import subprocess
+import sys
+import tempfile
+
+import declared
+import edits
+import gate
+import interface
+from run import Failed, enough, tried
+
+HERE = pathlib.Path(__file__).resolve().parent.parent
+CAPI = (HERE / "crates" / "capi" / "src" / "lib.rt").read_text()
+HEADER = (HERE / "include" / "kitchen.h").read_text()
+TABLE = (HERE / edits.TABLE).read_text()
+
+checks = 0
+failures = []
+
+
+def check(holds, label):
+    global checks
+    checks += 1
+    if not holds:
+        failures.append(label)
+
+
+def passes(label, function, *arguments):
+    """Where nothing is planted, nothing is found."""
+    try:
+        function(*arguments)
+        check(True, label)
+    except Failed as fault:
+        check(False, f"{label}: nothing is wrong, and it says: {fault}")
+
+
+def found(label, words, function, *arguments):
+    """What is planted is found, and these words are said of it."""
+    try:
+        function(*arguments)
+        check(False, f"{label}: it is not found")
+    except Failed as fault:
+        check(words in str(fault), f"{label}: expected '{words}', it says: {fault}")
+
+
+def changed(text, old, new):
+    """A text with these words changed, which stand in it once."""
+    if text.count(old) != 1:
+        raise ValueError(f"'{old}' stands {text.count(old)} times in what is to be changed")
+    return text.replace(old, new)
+
+
+@contextlib.contextmanager
+def planted(path, old, new):
+    """A file with a fault, for a while."""
+    kept = path.read_text()
+    path.write_text(changed(kept, old, new))
+    try:
+        yield
+    finally:
+        path.write_text(kept)
+
+
+# ---- the header
+
+# Of each wrong header: what is changed in ours, and who sees it: WORDS are compared, and a compiler sees TYPES, of which no name is a part.
+WORDS, TYPES = {"words"}, {"types"}
+BOTH = WORDS | TYPES
+WRONG_HEADERS = {
+    "arguments swapped": ("uint64_t layer, uint32_t *mutexes,\n                            size_t mutexes_len", "uint32_t *mutexes,\n                            size_t mutexes_len, uint64_t layer", BOTH),
+    "pointer and length swapped": ("(const uint8_t *file, size_t file_len, uint64_t number", "(size_t file_len, const uint8_t *file, uint64_t number", BOTH),
+    "arguments of one type swapped": ("uint64_t live,\n                      uint64_t goal", "uint64_t goal,\n                      uint64_t live", WORDS),
+    "files swapped": ("const uint8_t *first, size_t first_len, const uint8_t *second, size_t second_len", "const uint8_t *second, size_t second_len, const uint8_t *first, size_t first_len", WORDS),
+    "a narrower number": ("uint64_t floor", "uint32_t floor", BOTH),
+    "a wider element": ("uint32_t *rounds", "uint64_t *rounds", BOTH),
+    "a shorter length": ("size_t rounds_len", "uint32_t rounds_len", BOTH),
+    "a length of another name": ("size_t goals_len", "uint64_t goals_len", WORDS),
+    "a sign": ("uint64_t number", "int64_t number", BOTH),
+    "another result": ("uint32_t kitchen_find(", "uint64_t kitchen_find(", BOTH),
+    "no result": ("uint32_t kitchen_version(void)", "void kitchen_version(void)", BOTH),
+    "a buffer that is only read": ("uint8_t *groups, size_t groups_len, uint64_t out[2]);\n\n/* A pass", "const uint8_t *groups, size_t groups_len, uint64_t out[2]);\n\n/* A pass", BOTH),
+    "a file that is written": ("uint32_t kitchen_plan(const uint8_t *file", "uint32_t kitchen_plan(uint8_t *file", BOTH),
+    "no parameters": ("uint32_t kitchen_version(void)", "uint32_t kitchen_version()", BOTH),
+    "an argument too many": ("uint64_t number, uint64_t out[2]", "uint64_t number, uint64_t kind, uint64_t out[2]", BOTH),
+    "out of three words": ("uint64_t number, uint64_t out[2]", "uint64_t number, uint64_t out[3]", WORDS),
+    "a function of another name": ("kitchen_compare(const", "kitchen_compares(const", BOTH),
+    "a call of the interface left out": ("uint32_t kitchen_version(void);", "", BOTH),
+    "a function too many": ("uint32_t kitchen_version(void);", "uint32_t kitchen_version(void);\nuint32_t kitchen_news(void);", WORDS),
+    "a function of another sort": ("uint32_t kitchen_version(void);", "uint32_t kitchen_version(void);\nvoid *news(const char *of, int day);", WORDS),
+    "another size": ("#include <stdint.h>\n", "#include <stdint.h>\n#define size_t uint32_t\n", TYPES),
+}  # fmt: skip
+
+
+def headers(folder):
+    passes("our header", interface.same_prototypes, HEADER, CAPI)
+    passes("our header for a compiler", interface.compiled, CAPI, folder, HERE / "include")
+    for label, (old, new, seen) in WRONG_HEADERS.items():
+        wrong = changed(HEADER, old, new)
+        (folder / "kitchen.h").write_text(wrong)
+        if seen >= WORDS:
+            found(label, "the header declares ", interface.same_prototypes, wrong, CAPI)
+        if seen >= TYPES:
+            found(f"{label}, for a compiler", "redeclared.c", interface.compiled, CAPI, folder, folder)
+    for label, old, new in (
+        ("capi with another width", "floor: u64,", "floor: u32,"),
+        ("capi with swapped arguments", "live: u64,\n    goal: u64,", "goal: u64,\n    live: u64,"),
+        ("capi that lends a file to be written", "fn kitchen_name(file: &[u8]", "fn kitchen_name(file: &mut [u8]"),
+    ):
+        found(label, "the header declares ", interface.same_prototypes, HEADER, changed(CAPI, old, new))
+    found("a function that is not exported", "no_mangle", interface.prototypes, CAPI.replace("#[no_mangle]\n", "", 1))
+    found("a parameter that C cannot have", "which C cannot have", interface.prototypes, changed(CAPI, "floor: u64,", "floor: bool,"))
+
+
+def every_call(folder):
+    """The program that makes every call sees a header whose numbers are wrong, and an answer or a buffer that is not as known."""
+    program, archive = (HERE / "tests" / "every_call.c").read_text(), HERE / "target" / "lib" / "libkitchen.a"
+    calls = [
+        ("every call", "", HEADER, program, 0),
+        ("reasons that changed places", "", changed(changed(HEADER, "NO_SELECTION = 14", "NO_SELECTION = 15"), "NO_PLAN = 15", "NO_PLAN = 14"), program, 1),
+        ("a longer name", "", changed(HEADER, "KITCHEN_NAME_BYTES = 32", "KITCHEN_NAME_BYTES = 33"), program, 1),
+        ("a layer of fewer words", "", changed(HEADER, "KITCHEN_ROUND_WORDS = 64", "KITCHEN_ROUND_WORDS = 63"), program, 1),
+        ("another answer", "expected 0, 7 0", HEADER, changed(program, "7, 7, out), 0, 6, 0)", "7, 7, out), 0, 7, 0)"), 1),
+        ("another buffer", "buffers", HEADER, changed(program, "2, 4, 0, 1, 6)", "2, 4, 0, 1, 7)"), 1),
+        ("a buffer that is not kept", "buffers", HEADER, changed(program, "2, 4, 0, 2, 1)", "2, 4, 0, 2, 1, 0)"), 1),
+    ]
+    for label, words, header, text, status in calls:
+        (folder / "kitchen.h").write_text(header)
+        (folder / "every_call.c").write_text(text)
+        gate.run(["cc", "-std=c99", *interface.WARNINGS, "-I", str(folder), str(folder / "every_call.c"), str(archive), "-o", str(folder / "every_call")])
+        done = subprocess.run([str(folder / "every_call")], stdin=subprocess.DEVNULL, capture_output=True, text=True)
+        check(done.returncode == status and words in done.stdout, f"{label}: status {done.returncode}, {done.stdout}")
+
+
+# ---- the second program
+
+
+def deleted_scripts(folder):
+    shutil.copytree(HERE / "reference", folder / "reference", ignore=shutil.ignore_patterns("__pycache__"))
+    programs = gate.programs()
+    passes("the scripts", gate.scripts, folder, programs)
+    for path in sorted((folder / "reference").glob("*.py")):
+        kept = path.read_text()
+        path.unlink()
+        found(f"without {path.name}", f"lacks ['{path.stem}']", gate.scripts, folder, programs)
+        path.write_text(kept)
+    (folder / "reference" / "stray.py").write_text("")
+    found("a script of no program", "has ['stray']", gate.scripts, folder, programs)
+
+
+# ---- must-fail edits
+
+AT = "/a/target/must-fail/one/wrong/"
+GOOD_LOGS = (
+    "proofs/f/Proof.antt:12:13: error: `returns`: `search`: no proof of `a ≡ b`",
+    "proofs/f/Proof.antt:11:17: error: `cast-result`: `omega`: the part `.fits` of the goal does not follow from what it read. All of that holds",
+    "proofs/f/Proof.antt:11:17: error: `returns`: `omega`: a listed rule proves the goal from `a < 0`\n  and that does not follow from what it read",
+    "proofs/f/Proof.antt:14:14: error: `returns`: as printed, the two types first differ where one has `64` (expected)",
+    "proofs/Laws.antt:14:14: error: `law`: computed as far as they go, the two types differ only where one has `1`",
+    "proofs/f/Proof.antt:65:38: error: `returns`: expected type `a < b`\n  but this has type `a ≤ b`",
+    "proofs/Laws.antt:9:13: error: `law`: give a proof of that as the last argument, `rw L t`\n"
+    "  `rw` has no last argument, so what it leaves must be a path whose two ends are equal, and `a ≡ b`\n  is none",
+    "proofs/f/Proof.antt:19:56: error: `returns`: list the missing equation with its arguments, or rewrite by `rw` or `simp`\n"
+    "  `cc` met a bound of its own before the equations had joined `a` to `true`",
+)
+BAD_LOGS = {
+    "a name that is not in scope": ("proofs/f/Proof.antt:12:13: error: `returns`: `taken` is not in scope", "no failed fact"),
+    "a need that is gone": ("proofs/f/Proof.antt:12:13: error: `f-spec`: the module has no `Need-returns-2`", "no failed fact"),
+    "a field that is gone": ("proofs/f/Proof.antt:12:13: error: `returns`: record `f.Lts.Then1` has no field `args`", "no failed fact"),
+    "a definition that is gone": ("proofs/Laws.antt:3:1: error: module `specs.Sets` has no `lowest` that can be named from here", "no failed fact"),
+    "a fact that stands behind": ("proofs/f/Proof.antt:12:13: error: `returns`: `taken` is not in scope\nnote: `search`: no proof of `a ≡ b`", "no failed fact"),
+    "a proof that cannot be read": ("proofs/f/Proof.antt:12:13: error: expected a term, found `)`", "no failed fact"),
+    "a definition that has no type": ("specs/Rules.antt:3:1: error: `rule`: as printed, the two types first differ where one has `ℕ`", "in no proof"),
+    "nothing": ("", "names no fact"),
+    "what rests on something else": ("proofs/f/Proof.antt:1:1: error: `f-spec`: `returns` was not admitted", "names no fact"),
+}
+
+
+def logs():
+    scope = AT + BAD_LOGS["a name that is not in scope"][0]
+    for log in GOOD_LOGS:
+        passes(log, edits.refused_for, f"{AT}{log}\n{scope}\nlogic=not-proved\n")
+        found(f"behind another error: {log}", "no failed fact", edits.refused_for, f"{scope}\n{AT}{log}\nlogic=not-proved\n")
+    for label, (log, words) in BAD_LOGS.items():
+        found(f"a log of {label}", words, edits.refused_for, f"{AT}{log}\nlogic=not-proved\n")
+    note = f"note: {AT}src/lib.rt:1:2: it is not proved that the index is in range\n"
+    for log in ("", BAD_LOGS["what rests on something else"][0]):
+        passes("a fact in a note", edits.refused_for, f"{note}{AT}{log}\nlogic=not-proved\n")
+
+
+ROW = "given = planOf fileF (nines 3); stated = value 2"
+CHANGE = "file: src/lib.rt\nold: a + b\nnew: a - b\n"
+INPUT = "input: the file F of the rules\n"
+GOOD_EDITS = {
+    "an input": ("sets", CHANGE + INPUT),
+    "a definition": ("sets", CHANGE.replace("src/lib.rt", "specs/Sets.antt") + INPUT),
+    "two changes and an empty one": ("sets", CHANGE + "old: c\nnew:\nfile: src/word.rt\nold: d\nnew: e\n" + INPUT),
+    "a row": ("calls", f"{CHANGE}row: {ROW}\n"),
+    "a row and an input": ("report", f"{INPUT}row: {ROW}\n{CHANGE}"),
+    "a row of another crate": ("planner", f"{INPUT}row: {ROW}\n{CHANGE}"),
+    "a row that it changes": ("examples", f"file: specs/Table.antt\nold: planOf fileF (nines 3); stated = value 2\nnew: planOf fileF (nines 3); stated = value 3\nrow: {ROW}\n"),
+}  # fmt: skip
+BAD_EDITS = {
+    "an edit of a proof": ("sets", CHANGE.replace("src/lib.rt", "proofs/f/Proof.antt") + INPUT, "not code in src/"),
+    "an edit of a proof behind one of code": ("sets", CHANGE + "file: proofs/Bits.antt\nold: a\nnew: b\n" + INPUT, "not code in src/"),
+    "an edit by a way round": ("sets", CHANGE.replace("src/lib.rt", "src/../proofs/Bits.antt") + INPUT, "not code in src/"),
+    "no input": ("sets", CHANGE, "lacks a line 'input'"),
+    "an empty input": ("sets", CHANGE + "input:\n", "says nothing"),
+    "an input of blanks": ("sets", CHANGE + "input:   \n", "says nothing"),
+    "an input of a word": ("sets", CHANGE + "input: any\n", "at least 3 words"),
+    "two inputs": ("sets", CHANGE + INPUT + INPUT, "more than one"),
+    "a line of no kind": ("sets", CHANGE + "inputs: the file F\n", "begins with none of"),
+    "no row": ("calls", CHANGE + INPUT, "lacks a line 'row'"),
+    "an empty row": ("calls", CHANGE + "row:\n", "says nothing"),
+    "a row that is not there": ("calls", f"{CHANGE}row: {ROW.replace('value 2', 'value 3')}\n", "stands 0 times"),
+    "a row that is not there, of another crate": ("planner", f"{CHANGE}{INPUT}row: {ROW.replace('value 2', 'value 3')}\n", "stands 0 times"),
+    "words of many rows": ("capi", CHANGE + "row: ; stated = value 2 }\n", "stands 2 times"),
+    "words of a row without its answer": ("capi", CHANGE + "row: planOf fileF (nines 3)\n", "what is given and what is stated"),
+    "another row than it changes": ("examples", f"file: specs/Table.antt\nold: stated = value 6\nnew: stated = value 7\nrow: {ROW}\n", "another row"),
+    "nothing that is changed": ("sets", INPUT, "it takes 'file'"),
+    "old words without new ones": ("sets", "file: src/lib.rt\nold: a\n" + INPUT, "it takes 'file'"),
+    "the same words": ("sets", CHANGE.replace("a - b", "a + b") + INPUT, "are the same"),
+}  # fmt: skip
+
+
+def edit_files(folder):
+    for label, (crate, text) in GOOD_EDITS.items():
+        passes(f"an edit with {label}", edits.said, crate, text, TABLE)
+    for label, (crate, text, words) in BAD_EDITS.items():
+        found(f"an edit with {label}", words, edits.said, crate, text, TABLE)
+    hidden = TABLE.replace(ROW, "given = planOf fileF (nines 3); stated = value 3") + f"-- record {{ {ROW} }}\n"
+    found("a row in a comment", "in 0 of its rows", edits.said, "calls", GOOD_EDITS["a row"][1], hidden)
+    for crate, text in (("one", CHANGE + INPUT), ("two", CHANGE)):
+        (folder / "crates" / crate / "must-fail").mkdir(parents=True)
+        (folder / "crates" / crate / "must-fail" / "wrong.edit").write_text(text)
+    (folder / edits.TABLE).parent.mkdir(parents=True)
+    (folder / edits.TABLE).write_text(TABLE)
+    found("an edit of a tree", "1 must-fail edits: two/wrong: it lacks a line 'input'", edits.all_said, folder)
+
+
+# ---- names
+
+
+def with_promises(folder):
+    """A copy of all that docs/TRACE.md names, with a file Promises.antt that imports all theorems of the demands."""
+    for part in ("crates", "docs", "host", "include", "reference", "tests"):
+        shutil.copytree(HERE / part, folder / part, ignore=shutil.ignore_patterns("__pycache__"))
+    stated = [name for name, public in declared.signatures((folder / declared.DEMANDS).read_text()) if public]
+    lists = "".join(f"use Rattle.calls.proofs.Demands.{{{', '.join(part)}}}\n" for part in (stated[:1], stated[1:5], stated[5:]))
+    (folder / declared.PROMISES).write_text(f"-- All of them.\n{lists}")
+    lib = folder / "crates" / "calls" / "proofs" / "Lib.antt"
+    lib.write_text("\n".join([*(line for line in lib.read_text().splitlines() if line != "pub mod Promises"), "pub mod Promises", ""]))
+
+
+def declared_names(folder):
+    with_promises(folder)
+    page, laws = folder / "docs" / "TRACE.md", folder / "crates" / "jobfile" / "proofs" / "Theorems.antt"
+    code, specs = folder / "crates" / "states" / "src" / "lib.rt", folder / "crates" / "states" / "specs"
+    passes("the names", declared.traced, folder)
+    for label, path, old, new, words in (
+        ("a theorem in a comment", laws, "pub one-writing :", "-- pub one-writing :", "one-writing (theorem)"),
+        ("a theorem of another name", laws, "pub one-writing :", "-- one-writing\npub two-writings :", "one-writing (theorem)"),
+        ("a theorem in a long comment", laws, "pub one-writing :", "{- {- -}\npub one-writing : -}\npub two-writings :", "one-writing (theorem)"),
+        ("a function in a comment", code, "fn hopeless(", "fn helpless(/* fn hopeless( */", "states::hopeless (contract)"),
+        ("a function in a line of comment", code, "pub fn hopeless(", "// pub fn hopeless(\npub fn helpless(", "states::hopeless (contract)"),
+        ("a row of a theorem that is not there", page, "`closed-hopeless`", "`closed-hopeless`, `open-hopeless`", "open-hopeless (theorem)"),
+        ("a theorem as a definition", page, "| `Hopeless` |", "| `closed-hopeless` |", "closed-hopeless (definition)"),
+        ("a function of another crate", page, "`states::hopeless`", "`planner::hopeless`", "planner::hopeless (contract)"),
+        ("an edit that is not there", page, "`crowded_is_closed`", "`crowded_is_open`", "crowded_is_open (must-fail edit)"),
+        ("a test that is not there", page, "`include/kitchen.h` |", "`include/kitchens.h` |", "include/kitchens.h (test)"),
+    ):
+        with planted(path, old, new):
+            found(label, words, declared.traced, folder)
+    (definition,) = [path for path in specs.glob("*.antt") if "pub Hopeless :" in path.read_text()]
+    with planted(definition, "pub Hopeless :", "pub Hopeful :"):
+        found("a definition of another name", "Hopeless (definition)", declared.traced, folder)
+    new = folder / "crates" / "sets" / "must-fail" / "new.edit"
+    new.write_text("")
+    found("an edit that is not traced", "lacks the must-fail edits new", declared.traced, folder)
+    new.unlink()
+
+
+def promises(folder):
+    page, demands, taken = (folder / name for name in ("docs/TRACE.md", declared.DEMANDS, declared.PROMISES))
+    one = next(name for name, public in declared.signatures(demands.read_text()) if public)
+    table = page.read_text().partition("\n## The demands\n")[2]
+    row = next(line for line in table.splitlines() if f"`{one}`" in line)
+    first = f"use Rattle.calls.proofs.Demands.{{{one}}}\n"
+    passes("the theorems of the demands", declared.promised, folder)
+    for label, path, old, new in (
+        ("a theorem deleted", demands, f"pub {one} :", f"-- {one}\npub another-{one} :"),
+        ("a theorem in a comment", demands, f"pub {one} :", f"-- pub {one} :"),
+        ("a theorem that is not pub", demands, f"pub {one} :", f"{one} :"),
+        ("a theorem that is not imported", taken, first, ""),
+        ("a theorem that is imported from elsewhere", taken, first, first.replace("Demands", "DemandLaws")),
+        ("an import in a comment", taken, first, f"-- {first}"),
+        ("an import in a long comment", taken, first, f"{{-\n{first}-}}\n"),
+        ("a row without a theorem", page, row, row.replace(f"`{one}`", "")),
+        ("a row of a theorem too many", page, row, row.replace(f"`{one}`", f"`{one}`, `another-{one}`")),
+    ):
+        with planted(path, old, new):
+            found(label, f"{one}'", declared.promised, folder)
+    with planted(folder / "crates" / "calls" / "proofs" / "Lib.antt", "pub mod Promises", "-- pub mod Promises"):
+        found("a file that the checker does not read", "does not declare Promises", declared.promised, folder)
+    taken.unlink()
+    found("no file of promises", "Promises.antt is missing", declared.promised, folder)
+
+
+# ---- counts and verdicts
+
+
+def result_of(seen, least):
+    """Why a check that sees so many things fails, where these are demanded."""
+
+    def emptied():
+        return seen
+
+    with contextlib.redirect_stdout(io.StringIO()):
+        return tried(emptied, least).fault
+
+
+def least_counts():
+    check(result_of(9, {"emptied": 9}) == "", "as many things as there have to be")
+    for label, fault in {
+        "fewer things": result_of(8, {"emptied": 9}),
+        "nothing": result_of(0, {"emptied": 0}),
+        "no least count": result_of(9, {}),
+        "no count": result_of(None, {"emptied": 9}),
+    }.items():
+        check(fault, f"a check that sees {label}: it is not found")
+    passes("enough", enough, {"crates": 36, "edits": 9}, {"crates": 36})
+    found("too few", "crates: 35 and not 36", enough, {"crates": 35}, {"crates": 36})
+    found("none", "edits: 0 and not 1", enough, {"crates": 36}, {"crates": 36, "edits": 1})
+    found("no least counts", "", enough, {"crates": 36}, {})
+    with contextlib.redirect_stdout(io.StringIO()):
+        found("a sort that is not compared", "refused 2: 0 and not 5", gate.counted, "refused 1: 9, refused 12: 7", {"refused 1": 9, "refused 2": 5})
+
+
+def verdicts():
+    check(gate.assumed("logic=proved functions=12 target=x86_64-unknown-linux-gnu sum=0") == 0, "a library that assumes nothing")
+    check(gate.assumed("logic=proved functions=12 axioms=2 target=x86_64-unknown-linux-gnu sum=0") == 2, "a library that assumes two C functions")
+    found("a verdict that counts no C functions", "counts no C functions", gate.assumed, "logic=proved functions=12 sum=0")
+
+
+def main():
+    for part in (logs, least_counts, verdicts):
+        part()
+    for parts in ((headers,), (every_call,), (deleted_scripts,), (edit_files,), (declared_names, promises)):
+        with tempfile.TemporaryDirectory() as folder:
+            for part in parts:
+                part(pathlib.Path(folder))
+    for failure in failures:
+        print(f"FAILED {failure}")
+    print(f"{checks} checks" + (f", {len(failures)} failed" if failures else ""))
+    return 1 if failures else 0
+
+
+if __name__ == "__main__":
+    sys.exit(main())
