@@ -1,7 +1,7 @@
 -- A pass as loops compute it: the contributions group by group, their sum, and the set of those that are supported. Assumes nothing.
 use mathlib.Core.Path.{_≡_, refl, sym, ap, ap₂, _∙_}
 use mathlib.Core.Logic.{_⊎_, inl, inr, _≢_}
-use mathlib.Core.Bool.{Bool, _&&_}
+use mathlib.Core.Bool.{Bool, true, false, _&&_}
 use mathlib.Core.List.{List}
 use Prim.Native.Nat.{ℕ, _+_, _-_, _^_, _≤_, _<_, max}
 use native.Mathlib.Omega.{arith}
@@ -21,6 +21,14 @@ use Rattle.sets.proofs.Made.{set-made}
 use Rattle.sets.proofs.Counts.{count-le, count-part, count-without}
 use Rattle.network.specs.Network.{Network}
 use Rattle.network.specs.Filter.{share, contribution, others, supported, pass, passes}
+
+-- an answer that is true at the very numbers at which a comparison holds
+pub same-test : (r : Bool) (a b : ℕ) → (a ≤ b → r ≡ true) → (b < a → r ≡ false) → r ≡ leb a b
+same-test r a b passes fails = go (decLe a b)
+  where
+    go : Dec (a ≤ b) → r ≡ leb a b
+    go (yes h) = passes h ∙ sym (le-leb a b h)
+    go (no h) = let l : b < a = omega arith in fails l ∙ sym (lt-leb a b l)
 
 -- what the goal has beyond the wishes of v is its count less what v carries of it
 pub lacking-left : (p s want own rest : ℕ) → want ≡ count p → own ≡ count (bitAnd s p) → leb want (rest + own) ≡ leb (count (without p s)) rest

@@ -9,6 +9,8 @@ use native.Mathlib.Omega.{arith}
 use lib.Dec.{leb, ltb}
 use lib.ListN.{getD}
 use borrow.Author.Tests.{not-true, not-false, lt-ltb, le-ltb, lt-leb, le-leb}
+use Rattle.reading.specs.declared.Reason.{Reason}
+use Rattle.reading.specs.declared.Refusal.{Refusal}
 use Rattle.jobfile.specs.declared.ReadChoice.{ReadChoice}
 use Rattle.network.specs.declared.lent.Lent.{Lent}
 use Rattle.network.specs.declared.lent.Lent.the-variants as Lent
@@ -21,6 +23,10 @@ use Rattle.filtering.specs.declared.goals.Goals.{Goals}
 use Rattle.filtering.specs.declared.goals.Goals.the-variants as Goals
 use Rattle.filtering.specs.Answers.{goalsBy}
 use Rattle.lending.specs.Tests.{networkIn}
+
+-- a refusal by its reason and its place
+abbrev pub refusalBy : Reason → ℕ → Refusal
+refusalBy reason place = record { reason = reason; place = place }
 
 -- ---- the range of a layer
 

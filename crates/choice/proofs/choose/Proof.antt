@@ -1,8 +1,9 @@
 -- `choice::choose` meets its contract.
 use borrow.Author.Needs.{needs}
-use mathlib.Core.Path.{sym, subst}
+use mathlib.Core.Path.{_≡_, sym, ap, subst, _∙_}
 use mathlib.Core.List.{List}
 use Prim.Native.Nat.{ℕ}
+use native.Mathlib.Omega.{arith}
 use denote.Ref.{now}
 use lib.ListN.{getD}
 use Rattle.network.specs.Network.{listed}
@@ -10,6 +11,7 @@ use Rattle.network.specs.Filter.{setAside}
 use Rattle.tables.specs.Tables.{transposed, Tabled}
 use Rattle.tables.proofs.TableLaws.{tables-right}
 use Rattle.choice.specs.Choice.{selection}
+use Rattle.choice.specs.declared.Choice.the-variants as Choice
 use Rattle.choice.proofs.ChoiceLaws.{chosen-set, chosen-nothing}
 use Rattle.choice.proofs.AmongLaws.{among-found, aside-left}
 use Rattle.choice.proofs.choose.Statement.{statement}
@@ -51,7 +53,8 @@ returns c =
     let r =
     among-found 64 (a .n) (now (a .wishes)) (now (a .clashes)) group (now (a .goals)) (a .order) (a .floor) (e .pre .0) (e .pre .2) (e .pre .3) (s .before .before .before .before .before .before .before .left-live .ensures) (s .before .before .before .before .both-ways .ensures)
     (s .smallest .ensures) in
-    chosen-set (selection (listed (a .n) (now (a .wishes)) (now (a .clashes))) (a .order) (a .floor)) r (c .before .found .given .1)
+    ap (λ (x : ℕ). Choice.Chosen x (s .before .before .before .before .before .without .result)) (let selected : _ ≡ c .before .found .given .0 .0 = omega arith in selected)
+    ∙ chosen-set (selection (listed (a .n) (now (a .wishes)) (now (a .clashes))) (a .order) (a .floor)) r (c .before .found .given .1)
     (aside-left (a .n) (now (a .wishes)) (now (a .clashes)) group (now (a .goals)) (s .before .before .before .before .before .before .full .ensures) (s .before .before .before .before .before .before .before .left-live .ensures) (s .before .before .before .before .before .without .ensures))
 
 returns-2 : tie.Need-returns-2

@@ -9,7 +9,7 @@ use mathlib.Core.Logic.{_≢_}
 use Prim.Native.Nat.{ℕ, _+_, _-_, _*_, _^_, _≤_, _<_}
 use native.Mathlib.Nat.{le-trans}
 use native.Mathlib.Omega.{arith}
-use lib.ListN.{length}
+use lib.ListN.{length, set}
 use denote.Ref.{now}
 use Rattle.sets.specs.Sets.{_∈_, _⊆_}
 use Rattle.sets.proofs.Bits.{bit-empty, bit-without, part-refl, part-in, part-le, less-lt}
@@ -17,7 +17,7 @@ use Rattle.network.specs.Network.{listed}
 use Rattle.choice.specs.Choice.{Cover}
 use Rattle.questions.specs.Questions.{rowOf}
 use Rattle.questions.proofs.LayerLaws.{lowest-one, asked-none}
-use Rattle.extraction.specs.Extraction.{Graph, graph, Back, Nogoods, Noted, Extracted}
+use Rattle.extraction.specs.Extraction.{Graph, graph, Back, Held, Nogoods, Noted, Extracted}
 use Rattle.extraction.proofs.NogoodLaws.{noted-refutes}
 use Rattle.extraction.proofs.ExtractLaws.{asked-set, held-more, bottom-held, bottom-lacks, blocked-refuses, refuses-blocked, known-refuses, open-picks, open-needs, leaf, Turning, turning-start, turning-more, turning-last, layer-asked, entry-asked, refuses-whole, stored-refused}
 use borrow.Fn.Kinds.{In}
@@ -519,9 +519,10 @@ extract-returns-5 t c =
     let y = p .before .picked .given .0 .0 in
     let n = x .before .before .before .before .before .gather .result in
     let q = x .extract .last .1 .1 .1 .1 .1 .1 .1 .0 in (
-      held-more T (a .k) (a .goal) n y (c .steps-of .result) q (rounds-left t u) (omega (arith, s .pre .1 .1 .1, rounds-left t u, x .extract .kept .1 .1 .1 .1 .1 .1 .1 .0))
+      subst (λ (i : ℕ). Held T (a .k) (a .goal) (set q i (c .steps-of .result))) (let place : a .k - 1 ≡ _ = omega arith in place)
+          (held-more T (a .k) (a .goal) n y (c .steps-of .result) q (rounds-left t u) (omega (arith, s .pre .1 .1 .1, rounds-left t u, x .extract .kept .1 .1 .1 .1 .1 .1 .1 .0))
           (open-picks T (a .k - 1) (a .may) (u .open-to .result) (u .open-to .ensures) (a .goal) y (covered t p)) (x .before .before .before .before .before .gather .ensures) (c .steps-of .ensures)
-          (subst (λ r. Extracted T (a .k - 1) n (a .all) 0 0 q r) (c .before .enum-told3 .given .1) (x .extract .ensures .0)),
+          (subst (λ r. Extracted T (a .k - 1) n (a .all) 0 0 q r) (c .before .enum-told3 .given .1) (x .extract .ensures .0))),
       x .extract .ensures .1,
     )
 

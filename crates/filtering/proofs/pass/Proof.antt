@@ -80,8 +80,7 @@ loop-again c =
     let N = listed (a .n) (a .wishes .now) [] in
     let k = getD (a .groups .now) (l .v) 0 in
     let e = others-left N (λ i. getD (a .groups .now) i 0) (a .live) (a .goal) (c .before .before .before .before .before .before .before .before .contributions .result) (c .before .before .before .before .before .before .sum .result) k (c .before .before .before .before .before .before .before .before .before .before .pre .2) (c .before .before .before .before .before .before .before .before .before .before .pre .0) (c .before .before .before .before .before .before .before .before .contributions .ensures) (c .before .before .before .before .before .before .sum .ensures .0) (c .before .before .before .before .before .before .before .before .before .before .pre .2 (l .v) (c .before .before .before .loop-test .taken)) in
-    let left : c .before .before .before .before .before .before .sum .result - getD (c .before .before .before .before .before .before .before .before .contributions .result) k 0 ≡ others N (λ i. getD (a .groups .now) i 0) (a .live) (a .goal) k = omega (arith, e) in
-    (omega (arith, c .before .before .before .loop-test .taken), pass-turn N (λ i. getD (a .groups .now) i 0) (a .live) (a .goal) (l .kept) (l .v) (c .before .before .before .before .before .before .sum .result - getD (c .before .before .before .before .before .before .before .before .contributions .result) k 0) (c .more-if .result) (c .before .stays .result) (l .inv .1) left (c .before .stays .ensures) (c .more-if .ensures))
+    (omega (arith, c .before .before .before .loop-test .taken), pass-turn N (λ i. getD (a .groups .now) i 0) (a .live) (a .goal) (l .kept) (l .v) _ (c .more-if .result) (c .before .stays .result) (l .inv .1) (let left : _ ≡ others N (λ i. getD (a .groups .now) i 0) (a .live) (a .goal) k = omega (arith, e) in left) (c .before .stays .ensures) (c .more-if .ensures))
 
 returns : tie.Need-returns Inv-loop μ-loop
 returns c =

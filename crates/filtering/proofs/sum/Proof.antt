@@ -10,14 +10,14 @@ use Rattle.filtering.proofs.sum.Statement.{statement}
 use Rattle.filtering.proofs.sum.Tie as tie
 
 abbrev Inv-loop : tie.InvT-loop
-Inv-loop best all₀ j₀ all j = (j ≤ 64) × (all ≤ j * 64) × (all ≡ sumTo j (λ i. getD best i 0))
+Inv-loop best all₀ j₀ all j = (j ≤ 64) × (all ≡ sumTo j (λ i. getD best i 0)) × (all ≤ j * 64)
 
 abbrev μ-loop : tie.MeasureT-loop
 μ-loop best all₀ j₀ all j = 64 - j
 
 loop-holds : tie.Need-loop-holds Inv-loop μ-loop
 unfolding sumTo
-loop-holds c = (omega arith, omega arith, refl)
+loop-holds c = (omega arith, refl, omega arith)
 
 mul-all : tie.Need-mul-all Inv-loop μ-loop
 mul-all c = search needs
@@ -38,13 +38,13 @@ loop-again : tie.Need-loop-again Inv-loop μ-loop
 loop-again c =
     let l = c .before .before .loop in
     let h = c .before .before .before .pre (l .j) (omega (arith, c .before .loop-test .taken)) in
-    (omega (arith, c .before .loop-test .taken), omega (arith, l .inv .1, h), ap (λ (x : ℕ). x + getD (c .before .before .before .args .best .now) (l .j) 0) (l .inv .2) ∙ sym (sum-turn (l .j) (λ i. getD (c .before .before .before .args .best .now) i 0)))
+    (omega (arith, c .before .loop-test .taken), omega (arith, l .inv .1, h, sum-turn (l .j) (λ i. getD (c .before .before .before .args .best .now) i 0)), omega (arith, l .inv .2, h))
 
 returns : tie.Need-returns Inv-loop μ-loop
 returns c =
     let l = c .before .loop in
     let e : l .j ≡ 64 = omega (arith, l .inv .0, c .loop-test .left) in
-    (l .inv .2 ∙ ap (λ (m : ℕ). sumTo m (λ i. getD (c .before .before .args .best .now) i 0)) e, omega (arith, l .inv .1))
+    (l .inv .1 ∙ ap (λ (m : ℕ). sumTo m (λ i. getD (c .before .before .args .best .now) i 0)) e, omega (arith, l .inv .2))
 
 pub sum-spec : {M : Type 1} → statement M
 sum-spec =

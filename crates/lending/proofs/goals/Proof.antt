@@ -1,8 +1,10 @@
 -- `lending::goals` meets its contract.
 use borrow.Author.Needs.{needs}
-use mathlib.Core.Path.{ap, _∙_}
+use mathlib.Core.Path.{_≡_, ap, _∙_}
+use native.Mathlib.Omega.{arith}
+use Rattle.reading.specs.declared.Reason.the-variants.{BadGoal}
 use Rattle.jobfile.specs.declared.Verdict.the-variants as Verdict
-use Rattle.lending.proofs.VerdictLaws.{bad-told}
+use Rattle.lending.proofs.VerdictLaws.{refusalBy, bad-told}
 use Rattle.lending.proofs.goals.Statement.{statement}
 use Rattle.lending.proofs.goals.Tie as tie
 
@@ -19,7 +21,7 @@ enum-told : tie.Need-enum-told
 enum-told c = search needs
 
 returns : tie.Need-returns
-returns c = ap Verdict.Refused (c .refusal-at .ensures) ∙ simp (bad-told _ _ (c .before .before .before .before .first-bad .ensures) (c .before .before .tested .given .1))
+returns c = ap Verdict.Refused (c .refusal-at .ensures ∙ ap (refusalBy BadGoal) (let place : _ ≡ c .before .before .tested .given .0 .0 = omega arith in place)) ∙ simp (bad-told _ _ (c .before .before .before .before .first-bad .ensures) (c .before .before .tested .given .1))
 
 returns-2 : tie.Need-returns-2
 returns-2 c = simp (bad-told _ _ (c .before .before .first-bad .ensures) (c .enum-told .given .1))

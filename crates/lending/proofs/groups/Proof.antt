@@ -1,9 +1,11 @@
 -- `lending::groups` meets its contract.
 use borrow.Author.Needs.{needs}
-use mathlib.Core.Path.{ap, _∙_}
+use mathlib.Core.Path.{_≡_, ap, _∙_}
+use native.Mathlib.Omega.{arith}
 use borrow.Author.Tests.{lt-ltb, le-ltb}
+use Rattle.reading.specs.declared.Reason.the-variants.{ShortBuffer, FalsePartition}
 use Rattle.jobfile.specs.declared.Verdict.the-variants as Verdict
-use Rattle.lending.proofs.VerdictLaws.{misplaced-told}
+use Rattle.lending.proofs.VerdictLaws.{refusalBy, misplaced-told}
 use Rattle.lending.proofs.groups.Statement.{statement}
 use Rattle.lending.proofs.groups.Tie as tie
 
@@ -11,7 +13,7 @@ refusal-at-requires : tie.Need-refusal-at-requires
 refusal-at-requires c κs = search needs
 
 returns : tie.Need-returns
-returns c = ap Verdict.Refused (c .refusal-at .ensures) ∙ simp (lt-ltb _ _ (c .before .if1 .taken))
+returns c = ap Verdict.Refused (c .refusal-at .ensures ∙ ap (refusalBy ShortBuffer) (let place : _ ≡ 0 = omega arith in place)) ∙ simp (lt-ltb _ _ (c .before .if1 .taken))
 
 first-misplaced-requires : tie.Need-first-misplaced-requires
 first-misplaced-requires c κs = search needs
@@ -28,7 +30,7 @@ enum-told c = search needs
 returns-2 : tie.Need-returns-2
 returns-2 c =
     let w = c .before .before .before .before .before .before .before .before .before in
-    ap Verdict.Refused (c .refusal-at2 .ensures)
+    ap Verdict.Refused (c .refusal-at2 .ensures ∙ ap (refusalBy FalsePartition) (let place : _ ≡ c .before .before .partition .given .0 .0 = omega arith in place))
     ∙ simp (le-ltb _ _ (c .before .before .before .before .before .before .before .if1 .left), misplaced-told (w .args .job) (w .args .groups .now) (c .before .before .before .before .first-misplaced .ensures) (c .before .before .partition .given .1))
 
 returns-3 : tie.Need-returns-3

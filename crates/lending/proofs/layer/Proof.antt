@@ -1,9 +1,11 @@
 -- `lending::layer` meets its contract.
 use borrow.Author.Needs.{needs}
-use mathlib.Core.Path.{ap, _∙_}
+use mathlib.Core.Path.{_≡_, ap, _∙_}
+use native.Mathlib.Omega.{arith}
 use borrow.Author.Tests.{lt-ltb, le-ltb}
+use Rattle.reading.specs.declared.Reason.the-variants.{LayerOutOfRange, ShortBuffer}
 use Rattle.jobfile.specs.declared.Verdict.the-variants as Verdict
-use Rattle.lending.proofs.VerdictLaws.{out-of-range, within}
+use Rattle.lending.proofs.VerdictLaws.{refusalBy, out-of-range, within}
 use Rattle.lending.proofs.layer.Statement.{statement}
 use Rattle.lending.proofs.layer.Tie as tie
 
@@ -16,7 +18,7 @@ refusal-at-requires c κs = search needs
 returns : tie.Need-returns
 returns c =
     let a = c .before .before .before .args in
-    ap Verdict.Refused (c .refusal-at .ensures) ∙ simp (out-of-range (a .k) (a .lowest) (a .highest) (c .before .before .in-range .ensures) (c .before .if1 .taken))
+    ap Verdict.Refused (c .refusal-at .ensures ∙ ap (refusalBy LayerOutOfRange) (let place : _ ≡ 0 = omega arith in place)) ∙ simp (out-of-range (a .k) (a .lowest) (a .highest) (c .before .before .in-range .ensures) (c .before .if1 .taken))
 
 refusal-at-requires-2 : tie.Need-refusal-at-requires-2
 refusal-at-requires-2 c κs = search needs
@@ -24,7 +26,7 @@ refusal-at-requires-2 c κs = search needs
 returns-2 : tie.Need-returns-2
 returns-2 c =
     let a = c .before .before .before .before .args in
-    ap Verdict.Refused (c .refusal-at2 .ensures) ∙ simp (within (a .k) (a .lowest) (a .highest) (c .before .before .before .in-range .ensures) (c .before .before .if1 .left), lt-ltb _ _ (c .before .if2 .taken))
+    ap Verdict.Refused (c .refusal-at2 .ensures ∙ ap (refusalBy ShortBuffer) (let place : _ ≡ 0 = omega arith in place)) ∙ simp (within (a .k) (a .lowest) (a .highest) (c .before .before .before .in-range .ensures) (c .before .before .if1 .left), lt-ltb _ _ (c .before .if2 .taken))
 
 returns-3 : tie.Need-returns-3
 returns-3 c =

@@ -2,8 +2,11 @@
 use borrow.Author.Needs.{needs}
 use mathlib.Core.Path.{_≡_, ap, _∙_}
 use mathlib.Core.Bool.{true, false}
+use native.Mathlib.Omega.{arith}
+use Rattle.reading.specs.declared.Reason.the-variants.{LiveOutsideFile, BadGoal}
 use Rattle.jobfile.specs.declared.Verdict.the-variants as Verdict
 use Rattle.network.specs.Filter.{outside, badGoal}
+use Rattle.lending.proofs.VerdictLaws.{refusalBy}
 use Rattle.lending.proofs.live_and_goal.Statement.{statement}
 use Rattle.lending.proofs.live_and_goal.Tie as tie
 
@@ -17,7 +20,7 @@ returns : tie.Need-returns
 returns c =
     let a = c .before .before .before .args in
     let out : outside (a .articles) (a .live) ≡ true = cc in
-    ap Verdict.Refused (c .refusal-at .ensures) ∙ simp out
+    ap Verdict.Refused (c .refusal-at .ensures ∙ ap (refusalBy LiveOutsideFile) (let place : _ ≡ 0 = omega arith in place)) ∙ simp out
 
 bad-goal-requires : tie.Need-bad-goal-requires
 bad-goal-requires c κs = search needs
@@ -30,7 +33,7 @@ returns-2 c =
     let a = c .before .before .before .before .before .args in
     let within : outside (a .articles) (a .live) ≡ false = cc in
     let bad : badGoal (a .order) (a .goal) ≡ true = cc in
-    ap Verdict.Refused (c .refusal-at2 .ensures) ∙ simp (within, bad)
+    ap Verdict.Refused (c .refusal-at2 .ensures ∙ ap (refusalBy BadGoal) (let place : _ ≡ 0 = omega arith in place)) ∙ simp (within, bad)
 
 returns-3 : tie.Need-returns-3
 returns-3 c =

@@ -9,6 +9,7 @@ use lib.ListN.{length, getD}
 use Rattle.sets.specs.First.{firstFrom}
 use Rattle.sets.proofs.First.{first-here, first-nowhere, left-next}
 use Rattle.network.specs.Filter.{badGoal, firstBad}
+use Rattle.filtering.specs.declared.goals.Goals.the-variants as Goals
 use Rattle.filtering.specs.Answers.{goalsBy}
 use Rattle.filtering.proofs.GoalLaws.{all-left}
 use Rattle.filtering.proofs.goals.first_bad.Statement.{statement}
@@ -43,7 +44,8 @@ returns c =
     let a = c .before .before .before .before .before .before .args in
     let l = c .before .before .before .before .loop in
     let n = length (a .goals .now) in
-    ap goalsBy (first-here (bad (a .order) (a .goals .now)) (l .left) (n - l .left) (c .before .before .before .loop-test .taken) (sym (c .before .bad-goal .ensures) ∙ c .if1 .taken) ∙ l .inv .2)
+    ap Goals.Bad (let place : _ ≡ n - l .left = omega arith in place)
+    ∙ ap goalsBy (first-here (bad (a .order) (a .goals .now)) (l .left) (n - l .left) (c .before .before .before .loop-test .taken) (sym (c .before .bad-goal .ensures) ∙ c .if1 .taken) ∙ l .inv .2)
 
 sub-left : tie.Need-sub-left Inv-loop μ-loop
 sub-left c = search needs

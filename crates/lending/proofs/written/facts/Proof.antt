@@ -53,7 +53,7 @@ returns : tie.Need-returns Inv-loop μ-loop
 returns c =
     let w = c .before .before .before in
     let l = c .before .loop in
-    written-all 32 (l .i) (w .args .mutex .now) (w .args .words .now) _ (l .inv .0) (c .loop-test .left) (l .inv .2)
+    written-all 32 (l .i) (w .args .mutex .now) (w .args .words .now) _ (omega (arith, l .inv .0)) (omega (arith, c .loop-test .left)) (l .inv .2)
 
 pub facts-spec : {M : Type 1} → statement M
 facts-spec =

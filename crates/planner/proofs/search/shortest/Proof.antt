@@ -10,6 +10,8 @@ use Rattle.layering.specs.Drawn.{fittingIn}
 use Rattle.states.specs.States.{Hopeless}
 use Rattle.extraction.specs.Extraction.{graph, Back, Nogoods, Extracted}
 use Rattle.extraction.proofs.NogoodLaws.{empty-nogoods}
+use Rattle.planner.specs.declared.Planned.the-variants as Planned
+use Rattle.planner.specs.Tabulated.{Copied, Searched}
 use Rattle.planner.proofs.SearchLaws.{held-same, refused-more}
 use Rattle.planner.proofs.search.shortest.Statement.{statement}
 use Rattle.planner.proofs.search.shortest.Tie as tie
@@ -47,7 +49,7 @@ extract-requires : tie.Need-extract-requires Inv-loop μ-loop
 extract-requires c κs =
     let w = c .before .before .before .before .before .before .before in
     let l = c .before .before .before .loop in
-    let k : l .k ≤ length (w .args .members .now) = c .before .before .loop-test .taken in
+    let k : l .k ≤ length (w .args .members .now) = omega (arith, c .before .before .loop-test .taken) in
     ((w .pre .0 .0, l .inv .4), (k, omega (arith, w .pre .0 .0 .short, l .inv .1), w .pre .0 .2, part-refl (w .args .all), λ i. omega (arith, bit-empty i)))
 
 enum-known-outcome : tie.Need-enum-known-outcome Inv-loop μ-loop
@@ -60,7 +62,7 @@ copy-requires : tie.Need-copy-requires Inv-loop μ-loop
 copy-requires c κs =
     let w = c .before .before .before .before .before .before .before .before .before .before .before .before .before .before in
     let l = c .before .before .before .before .before .before .before .before .before .before .loop in
-    let k : l .k ≤ length (w .args .members .now) = c .before .before .before .before .before .before .before .before .before .loop-test .taken in
+    let k : l .k ≤ length (w .args .members .now) = omega (arith, c .before .before .before .before .before .before .before .before .before .loop-test .taken) in
     (omega (arith, w .pre .0 .0 .short), omega (arith, w .pre .0 .1, ap length (l .inv .3)))
 
 same-length : tie.Need-same-length Inv-loop μ-loop
@@ -74,12 +76,11 @@ returns c =
     let copied = c .before .before .copy in
     let T = graph (w .args .needs .now) (w .args .gives .now) (w .args .members .now) (w .args .words .now) (w .args .start) (w .args .all) in
     let made = e .last .1 .1 .1 .1 .1 .1 .1 .0 in
-    let held = subst (λ r. Extracted T (l .k) (w .args .goal) (w .args .all) 0 0 made r) (c .before .before .before .before .before .enum-told .given .1) (e .ensures .0) in (
-      c .before .before .before .before .before .before .before .before .before .before .before .before .loop-test .taken,
-      held-same T (l .k) (w .args .goal) made (copied .last .0) (copied .ensures .0) held,
-      l .inv .5,
-      copied .ensures .1 ∙ ap (drop (l .k)) (l .inv .3),
-    )
+    let held = subst (λ r. Extracted T (l .k) (w .args .goal) (w .args .all) 0 0 made r) (c .before .before .before .before .before .enum-told .given .1) (e .ensures .0) in
+    let (front, rest) = subst (λ (n : ℕ). Copied n made (l .out) (copied .last .0)) (let words : _ ≡ l .k = omega arith in words) (copied .ensures) in
+    let k : l .k ≤ length (w .args .members .now) = omega (arith, c .before .before .before .before .before .before .before .before .before .before .before .before .loop-test .taken) in
+    subst (λ (n : ℕ). Searched T (length (w .args .members .now)) (w .args .goal) (w .args .out .now) (copied .last .0) (Planned.Rounds n)) (let count : l .k ≡ _ = omega arith in count)
+    (k, held-same T (l .k) (w .args .goal) made (copied .last .0) front held, l .inv .5, rest ∙ ap (drop (l .k)) (l .inv .3))
 
 array-read-stored : tie.Need-array-read-stored Inv-loop μ-loop
 array-read-stored c = search needs
@@ -108,7 +109,7 @@ loop-again c =
     let l = c .before .before .before .before .before .before .before .before .before .before .before .loop in
     let e = c .before .before .before .before .before .before .before .extract in
     let T = graph (w .args .needs .now) (w .args .gives .now) (w .args .members .now) (w .args .words .now) (w .args .start) (w .args .all) in
-    let k : l .k ≤ length (w .args .members .now) = c .before .before .before .before .before .before .before .before .before .before .loop-test .taken in
+    let k : l .k ≤ length (w .args .members .now) = omega (arith, c .before .before .before .before .before .before .before .before .before .before .loop-test .taken) in
     let made = e .last .1 .1 .1 .1 .1 .1 .1 .0 in
     let refused = subst (λ r. Extracted T (l .k) (w .args .goal) (w .args .all) 0 0 made r) (c .before .before .before .outcome .given .1) (e .ensures .0) in (
       omega arith,
@@ -116,7 +117,8 @@ loop-again c =
       search needs,
       l .inv .3,
       e .ensures .1,
-      refused-more T (w .args .carriers .now) (w .pre .0 .0) (l .k) (w .args .goal) (c .before .before .before .outcome .given .0 .0) refused (l .inv .5),
+      subst (λ (n : ℕ). (i : ℕ) → i < n → Back T i (w .args .goal) → ⊥) (let next : l .k + 1 ≡ _ = omega arith in next)
+          (refused-more T (w .args .carriers .now) (w .pre .0 .0) (l .k) (w .args .goal) (c .before .before .before .outcome .given .0 .0) refused (l .inv .5)),
     )
 
 same-length-3 : tie.Need-same-length-3 Inv-loop μ-loop
