@@ -8,8 +8,10 @@ import re
 import source
 from run import demand
 
-PROMISES = "crates/calls/proofs/Promises.antt"
-DEMANDS = "crates/calls/proofs/Demands.antt"
+PROMISES = "crates/demands/proofs/Promises.antt"
+DEMANDS = "crates/demands/proofs/Demands.antt"
+LIB = "crates/demands/proofs/Lib.antt"
+MODULE = "Rattle.demands.proofs.Demands"
 NAME = r"[^\s(){}.;,@\"]+"
 MARKS = r"((?:(?:pub|abbrev|unfoldable) )*)"
 SIGNATURE = re.compile(rf"{MARKS}({NAME}(?: {NAME})*) :(?:\s|$)")
@@ -149,9 +151,9 @@ def promised(root):
         demand((root / path).is_file(), f"{path} is missing")
     stated = {name for name, public in signatures((root / DEMANDS).read_text()) if public}
     named = of_the_demands((root / "docs" / "TRACE.md").read_text())
-    taken = imported((root / PROMISES).read_text(), "Rattle.calls.proofs.Demands")
+    taken = imported((root / PROMISES).read_text(), MODULE)
     demand(stated, f"{DEMANDS} declares no theorem")
     demand(named == stated, f"the table of docs/TRACE.md and {DEMANDS} differ in {sorted(named ^ stated)}")
     demand(taken == stated, f"{PROMISES} and {DEMANDS} differ in {sorted(taken ^ stated)}")
-    demand("Promises" in re.findall(r"^pub mod (\S+)", source.antt((root / "crates/calls/proofs/Lib.antt").read_text()), re.M), "crates/calls/proofs/Lib.antt does not declare Promises")
+    demand("Promises" in re.findall(r"^pub mod (\S+)", source.antt((root / LIB).read_text()), re.M), f"{LIB} does not declare Promises")
     return len(stated)

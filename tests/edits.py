@@ -47,15 +47,14 @@ def changes(pairs):
 
 
 def rows(table):
-    """The rows of the proved table, one a line: what is given, and what is stated of it."""
-    return [line.strip() for line in source.antt(table).splitlines() if re.search(r"\brecord \{.*\bgiven = .*; stated = .*\}", line)]
+    """The rows of the proved table, one a line: what a call says or leaves, or what a definition is, and what is stated of it."""
+    return re.findall(r"^    (?:∷ )?((?:says|leaves|is) .*\S)$", source.antt(table), re.M)
 
 
 def row_of(words, table):
-    """The one row of the proved table in which these words stand."""
-    demand("; stated = " in words, f"'{words}' is not what is given and what is stated of it")
-    found = [row for row in rows(table) if words in row]
-    demand(len(found) == 1 and table.count(words) == 1, f"'{words}' stands {table.count(words)} times in {TABLE}, and in {len(found)} of its rows")
+    """The one row of the proved table that these words are."""
+    found = [row for row in rows(table) if row == words]
+    demand(len(found) == 1 and table.count(words) == 1, f"'{words}' stands {table.count(words)} times in {TABLE}, and is {len(found)} of its rows")
     return found[0]
 
 

@@ -195,7 +195,7 @@ def logs():
         passes("a fact in a note", edits.refused_for, f"{note}{AT}{log}\nlogic=not-proved\n")
 
 
-ROW = "given = planOf fileF (nines 3); stated = value 2"
+ROW = "says (planOf fileF (nines 3)) (answered 2)"
 CHANGE = "file: src/lib.rt\nold: a + b\nnew: a - b\n"
 INPUT = "input: the file F of the rules\n"
 GOOD_EDITS = {
@@ -205,7 +205,7 @@ GOOD_EDITS = {
     "a row": ("calls", f"{CHANGE}row: {ROW}\n"),
     "a row and an input": ("report", f"{INPUT}row: {ROW}\n{CHANGE}"),
     "a row of another crate": ("planner", f"{INPUT}row: {ROW}\n{CHANGE}"),
-    "a row that it changes": ("examples", f"file: specs/Table.antt\nold: planOf fileF (nines 3); stated = value 2\nnew: planOf fileF (nines 3); stated = value 3\nrow: {ROW}\n"),
+    "a row that it changes": ("examples", f"file: specs/Table.antt\nold: {ROW}\nnew: says (planOf fileF (nines 3)) (answered 3)\nrow: {ROW}\n"),
 }  # fmt: skip
 BAD_EDITS = {
     "an edit of a proof": ("sets", CHANGE.replace("src/lib.rt", "proofs/f/Proof.antt") + INPUT, "not code in src/"),
@@ -219,11 +219,11 @@ BAD_EDITS = {
     "a line of no kind": ("sets", CHANGE + "inputs: the file F\n", "begins with none of"),
     "no row": ("calls", CHANGE + INPUT, "lacks a line 'row'"),
     "an empty row": ("calls", CHANGE + "row:\n", "says nothing"),
-    "a row that is not there": ("calls", f"{CHANGE}row: {ROW.replace('value 2', 'value 3')}\n", "stands 0 times"),
-    "a row that is not there, of another crate": ("planner", f"{CHANGE}{INPUT}row: {ROW.replace('value 2', 'value 3')}\n", "stands 0 times"),
-    "words of many rows": ("capi", CHANGE + "row: ; stated = value 2 }\n", "stands 2 times"),
-    "words of a row without its answer": ("capi", CHANGE + "row: planOf fileF (nines 3)\n", "what is given and what is stated"),
-    "another row than it changes": ("examples", f"file: specs/Table.antt\nold: stated = value 6\nnew: stated = value 7\nrow: {ROW}\n", "another row"),
+    "a row that is not there": ("calls", f"{CHANGE}row: {ROW.replace('answered 2', 'answered 3')}\n", "stands 0 times"),
+    "a row that is not there, of another crate": ("planner", f"{CHANGE}{INPUT}row: {ROW.replace('answered 2', 'answered 3')}\n", "stands 0 times"),
+    "words of many rows": ("capi", CHANGE + "row: (answered 2)\n", "and is 0 of its rows"),
+    "words of a row without its answer": ("capi", CHANGE + "row: says (planOf fileF (nines 3))\n", "and is 0 of its rows"),
+    "another row than it changes": ("examples", f"file: specs/Table.antt\nold: (answered 6)\nnew: (answered 7)\nrow: {ROW}\n", "another row"),
     "nothing that is changed": ("sets", INPUT, "it takes 'file'"),
     "old words without new ones": ("sets", "file: src/lib.rt\nold: a\n" + INPUT, "it takes 'file'"),
     "the same words": ("sets", CHANGE.replace("a - b", "a + b") + INPUT, "are the same"),
@@ -235,8 +235,8 @@ def edit_files(folder):
         passes(f"an edit with {label}", edits.said, crate, text, TABLE)
     for label, (crate, text, words) in BAD_EDITS.items():
         found(f"an edit with {label}", words, edits.said, crate, text, TABLE)
-    hidden = TABLE.replace(ROW, "given = planOf fileF (nines 3); stated = value 3") + f"-- record {{ {ROW} }}\n"
-    found("a row in a comment", "in 0 of its rows", edits.said, "calls", GOOD_EDITS["a row"][1], hidden)
+    hidden = TABLE.replace(ROW, "says (planOf fileF (nines 3)) (answered 3)") + f"-- {ROW}\n"
+    found("a row in a comment", "is 0 of its rows", edits.said, "calls", GOOD_EDITS["a row"][1], hidden)
     for crate, text in (("one", CHANGE + INPUT), ("two", CHANGE)):
         (folder / "crates" / crate / "must-fail").mkdir(parents=True)
         (folder / "crates" / crate / "must-fail" / "wrong.edit").write_text(text)
@@ -253,9 +253,9 @@ def with_promises(folder):
     for part in ("crates", "docs", "host", "include", "reference", "tests"):
         shutil.copytree(HERE / part, folder / part, ignore=shutil.ignore_patterns("__pycache__"))
     stated = [name for name, public in declared.signatures((folder / declared.DEMANDS).read_text()) if public]
-    lists = "".join(f"use Rattle.calls.proofs.Demands.{{{', '.join(part)}}}\n" for part in (stated[:1], stated[1:5], stated[5:]))
+    lists = "".join(f"use {declared.MODULE}.{{{', '.join(part)}}}\n" for part in (stated[:1], stated[1:5], stated[5:]))
     (folder / declared.PROMISES).write_text(f"-- All of them.\n{lists}")
-    lib = folder / "crates" / "calls" / "proofs" / "Lib.antt"
+    lib = folder / declared.LIB
     lib.write_text("\n".join([*(line for line in lib.read_text().splitlines() if line != "pub mod Promises"), "pub mod Promises", ""]))
 
 
@@ -292,7 +292,7 @@ def promises(folder):
     one = next(name for name, public in declared.signatures(demands.read_text()) if public)
     table = page.read_text().partition("\n## The demands\n")[2]
     row = next(line for line in table.splitlines() if f"`{one}`" in line)
-    first = f"use Rattle.calls.proofs.Demands.{{{one}}}\n"
+    first = f"use {declared.MODULE}.{{{one}}}\n"
     passes("the theorems of the demands", declared.promised, folder)
     for label, path, old, new in (
         ("a theorem deleted", demands, f"pub {one} :", f"-- {one}\npub another-{one} :"),
@@ -307,7 +307,7 @@ def promises(folder):
     ):
         with planted(path, old, new):
             found(label, f"{one}'", declared.promised, folder)
-    with planted(folder / "crates" / "calls" / "proofs" / "Lib.antt", "pub mod Promises", "-- pub mod Promises"):
+    with planted(folder / declared.LIB, "pub mod Promises", "-- pub mod Promises"):
         found("a file that the checker does not read", "does not declare Promises", declared.promised, folder)
     taken.unlink()
     found("no file of promises", "Promises.antt is missing", declared.promised, folder)

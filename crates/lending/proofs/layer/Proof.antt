@@ -3,7 +3,7 @@ use borrow.Author.Needs.{needs}
 use mathlib.Core.Path.{_≡_, ap, _∙_}
 use native.Mathlib.Omega.{arith}
 use borrow.Author.Tests.{lt-ltb, le-ltb}
-use Rattle.reading.specs.declared.Reason.the-variants.{LayerOutOfRange, ShortBuffer}
+use Rattle.reading.specs.declared.Reason.the-variants.{OutOfRange, ShortBuffer}
 use Rattle.jobfile.specs.declared.Verdict.the-variants as Verdict
 use Rattle.lending.proofs.VerdictLaws.{refusalBy, out-of-range, within}
 use Rattle.lending.proofs.layer.Statement.{statement}
@@ -18,7 +18,7 @@ refusal-at-requires c κs = search needs
 returns : tie.Need-returns
 returns c =
     let a = c .before .before .before .args in
-    ap Verdict.Refused (c .refusal-at .ensures ∙ ap (refusalBy LayerOutOfRange) (let place : _ ≡ 0 = omega arith in place)) ∙ simp (out-of-range (a .k) (a .lowest) (a .highest) (c .before .before .in-range .ensures) (c .before .if1 .taken))
+    ap Verdict.Refused (c .refusal-at .ensures ∙ ap (refusalBy OutOfRange) (let place : _ ≡ 0 = omega arith in place)) ∙ simp (out-of-range (a .k) (a .lowest) (a .highest) (c .before .before .in-range .ensures) (c .before .if1 .taken))
 
 refusal-at-requires-2 : tie.Need-refusal-at-requires-2
 refusal-at-requires-2 c κs = search needs
