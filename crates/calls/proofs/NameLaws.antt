@@ -31,6 +31,12 @@ use Rattle.calls.specs.Find.{findIn, findOf}
 use Rattle.calls.specs.Compare.{compareOf}
 use Rattle.calls.proofs.CallLaws.{Taken, choice-taken, fitting-taken, choice-down, fitting-down, job-down}
 
+-- ---- naming
+
+-- the spot of entry n, where that is the one asked for
+pub spot-asked : (g : Got (Job Spot)) {s : Spot} {n asked : ℕ} → s ≡ spotIn g n → n ≡ asked → s ≡ spotIn g asked
+spot-asked g e same = e ∙ ap (spotIn g) same
+
 -- ---- finding: a file is read as its first byte says
 
 of-fitting : (f name : List ℕ) → eqb (getD f 0 0) 70 ≡ true → onJob (readJob fittings f) (λ job. findIn job name) ≡ findOf f name
@@ -58,24 +64,25 @@ search-is f name takes t n starts lens en h =
     ∙ sym (ap (λ g. onJob g (λ job. findIn job name)) (read-same f takes ∙ ap (mapGot (jobBy f)) (t .is)))
 
 module _ (f name : List ℕ) {b : Bool} (kind : b ≡ eqb (getD f 0 0) 70) {s : Said ℕ} {o : Option ℕ} (told : s ≡ said (found o NameNotFound)) where
-  pub find-fitting : (r : ReadFitting) → b ≡ true → r ≡ fittingOf (read spots fittings f) → FittingBounds f r → r .verdict ≡ Verdict.Accepted
-      → o ≡ lowestNamed name (r .steps) (λ i. take (getD (r .lens) i 0) (drop (getD (r .starts) i 0) f)) → s ≡ said (findOf f name)
-  find-fitting r c e bounds accepted p =
+  -- the search was over n names
+  pub find-fitting : {n : ℕ} (r : ReadFitting) → b ≡ true → r ≡ fittingOf (read spots fittings f) → FittingBounds f r → r .verdict ≡ Verdict.Accepted
+      → o ≡ lowestNamed name n (λ i. take (getD (r .lens) i 0) (drop (getD (r .starts) i 0) f)) → n ≡ r .steps → s ≡ said (findOf f name)
+  find-fitting {n} r c e bounds accepted p all =
       let g = read spots fittings f in
       let t = fitting-taken g (ap (λ x. x .verdict) e) accepted in
       told
       ∙ ap said (ap (λ (o : Option ℕ). found o NameNotFound) p
-      ∙ search-is f name fittings t (r .steps) (r .starts) (r .lens) (ap (λ x. x .steps) e ∙ ap (λ x. fittingOf x .steps) (t .is)) (λ i. ap (λ x. spotOf (x .starts) (x .lens) i) e ∙ fitting-spot g (bounds .4) i)
+      ∙ search-is f name fittings t n (r .starts) (r .lens) (all ∙ ap (λ x. x .steps) e ∙ ap (λ x. fittingOf x .steps) (t .is)) (λ i. ap (λ x. spotOf (x .starts) (x .lens) i) e ∙ fitting-spot g (bounds .4) i)
       ∙ of-fitting f name (sym kind ∙ c))
 
-  pub find-choice : (r : ReadChoice) → b ≡ false → r ≡ choiceOf (read spots choices f) → ChoiceBounds f r → r .verdict ≡ Verdict.Accepted
-      → o ≡ lowestNamed name (r .articles) (λ i. take (getD (r .lens) i 0) (drop (getD (r .starts) i 0) f)) → s ≡ said (findOf f name)
-  find-choice r c e bounds accepted p =
+  pub find-choice : {n : ℕ} (r : ReadChoice) → b ≡ false → r ≡ choiceOf (read spots choices f) → ChoiceBounds f r → r .verdict ≡ Verdict.Accepted
+      → o ≡ lowestNamed name n (λ i. take (getD (r .lens) i 0) (drop (getD (r .starts) i 0) f)) → n ≡ r .articles → s ≡ said (findOf f name)
+  find-choice {n} r c e bounds accepted p all =
       let g = read spots choices f in
       let t = choice-taken g (ap (λ x. x .verdict) e) accepted in
       told
       ∙ ap said (ap (λ (o : Option ℕ). found o NameNotFound) p
-      ∙ search-is f name choices t (r .articles) (r .starts) (r .lens) (ap (λ x. x .articles) e ∙ ap (λ x. choiceOf x .articles) (t .is)) (λ i. ap (λ x. spotOf (x .starts) (x .lens) i) e ∙ choice-spot g (bounds .3) i)
+      ∙ search-is f name choices t n (r .starts) (r .lens) (all ∙ ap (λ x. x .articles) e ∙ ap (λ x. choiceOf x .articles) (t .is)) (λ i. ap (λ x. spotOf (x .starts) (x .lens) i) e ∙ choice-spot g (bounds .3) i)
       ∙ of-choice f name (sym kind ∙ c))
 
 -- ---- comparing
