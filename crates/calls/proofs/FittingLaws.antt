@@ -2,7 +2,7 @@
 use mathlib.Core.Path.{_≡_, refl, ap, ap₂, sym, _∙_, subst}
 use mathlib.Core.List.{List, _++_}
 use mathlib.Core.Option.{Option, none, some}
-use Prim.Native.Nat.{ℕ, zero, suc, _^_, _≤_, _<_}
+use Prim.Native.Nat.{ℕ, zero, suc, _+_, _-_, _^_, _≤_, _<_}
 use native.Mathlib.Decide.{decLt}
 use native.Mathlib.Omega.{arith}
 use lib.ListN.{length, getD, take, drop}
@@ -23,7 +23,7 @@ use Rattle.jobfile.specs.Answers.{padded}
 use Rattle.jobfile.specs.Read.{read, readJob, fittings}
 use Rattle.jobfile.proofs.ReadLaws.{padded-at}
 use Rattle.graph.specs.Rounds.{Fitting, fewest}
-use Rattle.graph.specs.Layers.{Layer, factsOver, factLayer, roundLayer}
+use Rattle.graph.specs.Layers.{Layer, vertices, factsOver, factLayer, roundOver, roundLayer}
 use Rattle.graph.specs.Back.{Sized}
 use Rattle.graph.proofs.WordLaws.{words-below}
 use Rattle.graph.proofs.LayerLaws.{facts-below}
@@ -111,10 +111,14 @@ module _ (f old : List ℕ) (k : ℕ) where
     pub vertices-stopped : {v : Verdict} {x : Refusal} → v ≡ verdictOf (layerTest k 1 (r .horizon) (length old) 64) → v ≡ Verdict.Refused x → record { answer = refusalSaid x; buffer = old } ≡ roundLayerOf f k old
     vertices-stopped e q = ap (left old) (stopped (layerTest k 1 (r .horizon) (length old) 64) (value (roundLayer 32 (fittingIn r) k)) e q ∙ rounds-on)
 
+    -- the round layer over fact layer j was made, and x handed on
+    abbrev roundAfter : ℕ → Layer
+    roundAfter j = roundOver 32 (vertices 32 (fittingIn r)) (32 + r .steps) (factLayer 32 (fittingIn r) j)
+
     pub vertices-made : {v : Verdict} {x j m : ℕ} {ws new : List ℕ} → v ≡ verdictOf (layerTest k 1 (r .horizon) (length old) 64) → v ≡ Verdict.Accepted
-        → layer m ws ≡ roundLayer 32 (fittingIn r) j → new ≡ ws ++ drop 64 old → j ≡ k → x ≡ m → record { answer = answered x; buffer = new } ≡ roundLayerOf f k old
+        → layer m ws ≡ roundAfter j → new ≡ ws ++ drop 64 old → j ≡ k - 1 → x ≡ m → record { answer = answered x; buffer = new } ≡ roundLayerOf f k old
     vertices-made {m = m} {ws = ws} {new = new} e q drawn wrote asked told =
-        let made : layer m ws ≡ roundLayer 32 (fittingIn r) k = drawn ∙ ap (roundLayer 32 (fittingIn r)) asked in
+        let made : layer m ws ≡ roundLayer 32 (fittingIn r) k = drawn ∙ ap roundAfter asked in
         let L = roundLayer 32 (fittingIn r) k in
         let same : new ≡ L .words ++ drop (length (L .words)) old =
         wrote ∙ ap₂ (λ (x : List ℕ) (n : ℕ). x ++ drop n old) (ap (λ M. M .words) made) (sym (rounds-length 32 (fittingIn r) k)) in

@@ -7,6 +7,7 @@ use Rattle.lending.specs.Answers.{refusalSaid}
 use Rattle.lending.proofs.TestLaws.{room-passed}
 use Rattle.expansion.proofs.ReadLaws.{sized-read}
 use Rattle.calls.proofs.CallLaws.{fitting-job}
+use Rattle.calls.proofs.ToldLaws.{seen}
 use Rattle.calls.proofs.FittingLaws.{Promised, plan-down, plan-short, plan-made, plan-none}
 use Rattle.calls.proofs.plan.Statement.{statement}
 use Rattle.calls.proofs.plan.Tie as tie
@@ -64,7 +65,7 @@ returns-3 c =
     let r = c .before .before .before .before .before .before .before .before .before .before .before .before .read-fitting in
     let R = fitting-job (now (a .file)) (r .result) (r .ensures .0) (r .ensures .1) (c .before .before .before .before .before .before .before .before .before .before .enum-told .given .1) in
     let p = c .before .before .before .before .before .plan in
-    plan-made (now (a .file)) (now (a .words)) (p .last .1 .0) (r .result) R (c .before .before .before .before .before .before .before .before .before .room .ensures) (omega arith) (c .before .before .before .before .before .before .before .enum-told2 .given .1) (p .ensures .0) (p .ensures .1) (c .before .made .given .1) (omega arith) (omega arith)
+    plan-made (now (a .file)) (now (a .words)) (p .last .1 .0) (r .result) R (c .before .before .before .before .before .before .before .before .before .room .ensures) (omega arith) (c .before .before .before .before .before .before .before .enum-told2 .given .1) (p .ensures .0) (p .ensures .1) (c .before .made .given .1) (seen (λ values is. omega arith)) (omega arith)
 
 same-length-2 : tie.Need-same-length-2
 same-length-2 c = search needs
