@@ -29,7 +29,8 @@ use Rattle.matching.proofs.SameLaws.{padded-same, search-cong}
 use Rattle.lending.specs.Answers.{Answer, value, onJob, found, Said, answered, said, refusalSaid}
 use Rattle.calls.specs.Find.{findIn, findOf}
 use Rattle.calls.specs.Compare.{compareOf}
-use Rattle.calls.proofs.CallLaws.{Taken, choice-taken, fitting-taken, choice-down, fitting-down, job-down}
+use Rattle.calls.proofs.CallLaws.{Taken, choice-taken, fitting-taken, choice-down, choice-down-as, fitting-down, job-down, faultIn, placeIn, takenIn}
+use Rattle.calls.proofs.ToldLaws.{values, one, tested, test-said}
 
 -- ---- naming
 
@@ -109,8 +110,11 @@ module _ (f s : List ℕ) where
   abbrev compared : Got (Job (List ℕ)) → Got (Job (List ℕ)) → Answer Bool
   compared g h = onJob g (λ a. onJob h (λ b. value (alike a b)))
 
-  pub compare-first : {v : Verdict} {x : Refusal} → v ≡ choiceOf (read spots choices f) .verdict → v ≡ Verdict.Refused x → refusalSaid x ≡ said (compareOf f s)
-  compare-first p q = ap said (job-down (λ a. onJob (readJob choices s) (λ b. value (alike a b))) (choice-down f p q))
+  -- g was read first, and its reading has the numbers of f
+  pub compare-first : (g : List ℕ) {v : Verdict} {x : Refusal} → v ≡ choiceOf (read spots choices g) .verdict → v ≡ Verdict.Refused x
+      → faultIn (read spots choices g) ≡ faultIn (read spots choices f) → placeIn (read spots choices g) ≡ placeIn (read spots choices f) → takenIn (read spots choices g) ≡ takenIn (read spots choices f)
+      → refusalSaid x ≡ said (compareOf f s)
+  compare-first g p q fault place t = ap said (job-down (λ a. onJob (readJob choices s) (λ b. value (alike a b))) (choice-down-as f g p q fault place t))
 
   module _ (a : ReadChoice) (ea : a ≡ choiceOf (read spots choices f)) (ba : ChoiceBounds f a) (va : a .verdict ≡ Verdict.Accepted) where
     first : Taken (read spots choices f)
@@ -122,11 +126,16 @@ module _ (f s : List ℕ) where
     pub compare-second : {v : Verdict} {x : Refusal} → v ≡ choiceOf (read spots choices s) .verdict → v ≡ Verdict.Refused x → refusalSaid x ≡ said (compareOf f s)
     compare-second p q = ap said (sym (ap₂ compared is-first (choice-down s p q)))
 
-    pub compare-both : (b : ReadChoice) {r t : Bool} → b ≡ choiceOf (read spots choices s) → ChoiceBounds s b → b .verdict ≡ Verdict.Accepted → r ≡ byArrays a b → r ≡ t → answered t ≡ said (compareOf f s)
-    compare-both b eb bb vb e k =
+    both-read : (b : ReadChoice) {r t : Bool} → b ≡ choiceOf (read spots choices s) → ChoiceBounds s b → b .verdict ≡ Verdict.Accepted → r ≡ byArrays a b → r ≡ t → answered t ≡ said (compareOf f s)
+    both-read b eb bb vb e k =
         let second = choice-taken (read spots choices s) (ap (λ x. x .verdict) eb) vb in
         ap (λ (x : Bool). answered x) (
         sym k ∙ e ∙ ap₂ byArrays (ea ∙ ap choiceOf (first .is)) (eb ∙ ap choiceOf (second .is))
         ∙ alike-is (first .job) (second .job) (first .end) (second .end) (subst (Few 64) (first .is) (ba .3)) (subst (Few 64) (second .is) (bb .3)) ∙ sym (alike-by f s (first .job) (second .job))
         )
         ∙ ap said (sym (ap₂ compared is-first (read-same s choices ∙ ap (mapGot (jobBy s)) (second .is))))
+
+    -- r is what the test of both said, and t what is told of it
+    pub compare-both : (b : ReadChoice) {r : Bool} (is : Bool) {t : Said Bool} → b ≡ choiceOf (read spots choices s) → ChoiceBounds s b → b .verdict ≡ Verdict.Accepted → r ≡ byArrays a b → r ≡ is
+        → values t ≡ 1 → tested t ≡ one is → t ≡ said (compareOf f s)
+    compare-both b is {t} eb bb vb e k v told = test-said t is v told ∙ both-read b eb bb vb e k
