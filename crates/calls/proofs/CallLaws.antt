@@ -1,13 +1,16 @@
 -- From what a file was read as to the job that it states: what every call begins with. Assumes nothing.
-use mathlib.Core.Path.{_≡_, refl, ap, sym, _∙_, subst}
+use mathlib.Core.Path.{_≡_, refl, ap, ap₂, sym, _∙_, subst}
 use Prim.Native.Nat.{ℕ}
 use mathlib.Core.Bool.{Bool}
 use mathlib.Core.List.{List}
 use native.Mathlib.Omega.{arith}
+use Rattle.reading.specs.declared.Reason.{Reason}
 use Rattle.reading.specs.declared.Refusal.{Refusal}
 use Rattle.reading.specs.declared.Spot.{Spot}
 use Rattle.reading.specs.Got.{Got, got, refused}
 use Rattle.reading.specs.Items.{spots}
+use Rattle.reading.specs.Reasons.{numberOf}
+use Rattle.reading.proofs.Reasons.{number-tells}
 use Rattle.jobfile.specs.declared.Verdict.{Verdict}
 use Rattle.jobfile.specs.declared.Verdict.the-variants as Verdict
 use Rattle.jobfile.specs.declared.ReadChoice.{ReadChoice}
@@ -71,6 +74,33 @@ choice-down f p q = refused-same f choices (down (read spots choices f) (sym (ch
 
 pub fitting-down : (f : List ℕ) {v : Verdict} {r : Refusal} → v ≡ Answers.fittingOf (read spots fittings f) .verdict → v ≡ Verdict.Refused r → readJob fittings f ≡ refused (r .reason) (r .place)
 fitting-down f p q = refused-same f fittings (down (read spots fittings f) (sym (fitting-verdict (read spots fittings f)) ∙ sym p ∙ q))
+
+-- a reading as numbers: the number of the fault and its place, 0 where there is none; and 1 if the file is accepted
+unfoldable pub faultIn : Got (Job Spot) → ℕ
+faultIn (refused reason place) = numberOf reason
+faultIn (got job end) = 0
+
+unfoldable pub placeIn : Got (Job Spot) → ℕ
+placeIn (refused reason place) = place
+placeIn (got job end) = 0
+
+unfoldable pub takenIn : Got (Job Spot) → ℕ
+takenIn (refused reason place) = 0
+takenIn (got job end) = 1
+
+by-numbers : (g : Got (Job Spot)) (reason : Reason) (place : ℕ) → numberOf reason ≡ faultIn g → place ≡ placeIn g → 0 ≡ takenIn g → g ≡ refused reason place
+unfolding faultIn placeIn takenIn
+by-numbers (refused reason place) reason′ place′ fault at t = ap₂ refused (sym (number-tells reason′ reason fault)) (sym at)
+by-numbers (got job end) reason′ place′ fault at t = absurd (omega arith)
+
+-- the same where file g was read: its reading has the numbers of f
+pub choice-down-as : (f g : List ℕ) {v : Verdict} {r : Refusal} → v ≡ choiceOf (read spots choices g) .verdict → v ≡ Verdict.Refused r
+    → faultIn (read spots choices g) ≡ faultIn (read spots choices f) → placeIn (read spots choices g) ≡ placeIn (read spots choices f) → takenIn (read spots choices g) ≡ takenIn (read spots choices f)
+    → readJob choices f ≡ refused (r .reason) (r .place)
+unfolding faultIn placeIn takenIn
+choice-down-as f g {r = r} p q fault place t =
+    let d = down (read spots choices g) (sym (choice-verdict (read spots choices g)) ∙ sym p ∙ q) in
+    refused-same f choices (by-numbers (read spots choices f) (r .reason) (r .place) (sym (ap faultIn d) ∙ fault) (sym (ap placeIn d) ∙ place) (sym (ap takenIn d) ∙ t))
 
 -- the call is turned down with it
 pub job-down : {A : Type 0} {g : Got (Job (List ℕ))} {r : Refusal} (call : Job (List ℕ) → Answer A) → g ≡ refused (r .reason) (r .place) → refusal (r .reason) (r .place) ≡ onJob g call

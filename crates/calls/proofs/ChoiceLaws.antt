@@ -36,7 +36,11 @@ module _ (f old : List ℕ) where
   pub partition-down : {v : Verdict} {x : Refusal} → v ≡ choiceOf (read spots choices f) .verdict → v ≡ Verdict.Refused x → record { answer = refusalSaid x; buffer = old } ≡ partitionOf f old
   partition-down p q = ap left (job-down (λ job. partitionIn job old) (choice-down f p q))
 
-  module _ (r : ReadChoice) (R : ChoiceRead f r) {v : Verdict} (e : v ≡ verdictOf (roomTest (length old) (r .articles))) where
+  -- so many bytes were demanded
+  module _ (r : ReadChoice) (R : ChoiceRead f r) {v : Verdict} {size : ℕ} (room : v ≡ verdictOf (roomTest (length old) size)) (as-read : size ≡ r .articles) where
+    e : v ≡ verdictOf (roomTest (length old) (r .articles))
+    e = room ∙ ap (λ (n : ℕ). verdictOf (roomTest (length old) n)) as-read
+
     abbrev partitionOver : Network → Answer (List ℕ)
     partitionOver N = behind (roomTest (length old) (N .articles)) (value (groupsTo N (N .articles)))
 
@@ -46,13 +50,13 @@ module _ (f old : List ℕ) where
     pub partition-short : {x : Refusal} → v ≡ Verdict.Refused x → record { answer = refusalSaid x; buffer = old } ≡ partitionOf f old
     partition-short q = ap left (stopped (roomTest (length old) (r .articles)) (value (groupsTo (networkIn r) (r .articles))) e q ∙ on-file)
 
-    -- the code looks at clashes only
-    pub partition-made : {new : List ℕ} → v ≡ Verdict.Accepted → new ≡ groupsTo (listed 64 [] (r .clashes)) (r .articles) ++ drop (r .articles) old → record { answer = answered tt; buffer = new } ≡ partitionOf f old
-    partition-made {new} q made =
+    -- the code looks at clashes only; so many groups were made
+    pub partition-made : {new : List ℕ} {count : ℕ} → v ≡ Verdict.Accepted → new ≡ groupsTo (listed 64 [] (r .clashes)) count ++ drop count old → count ≡ r .articles → record { answer = answered tt; buffer = new } ≡ partitionOf f old
+    partition-made {new} q made all =
         let N = networkIn r in
         let n = r .articles in
         let same : new ≡ groupsTo N n ++ drop (length (groupsTo N n)) old =
-        made ∙ ap₂ (λ (groups : List ℕ) (k : ℕ). groups ++ drop k old) (groups-listed 64 n [] (r .wishes) (r .clashes) n) (sym (groups-length N n)) in
+        made ∙ ap (λ (k : ℕ). groupsTo (listed 64 [] (r .clashes)) k ++ drop k old) all ∙ ap₂ (λ (groups : List ℕ) (k : ℕ). groups ++ drop k old) (groups-listed 64 n [] (r .wishes) (r .clashes) n) (sym (groups-length N n)) in
         ap (λ (b : List ℕ). record { answer = answered tt; buffer = b }) same ∙ ap left (through (roomTest (length old) n) (value (groupsTo N n)) e q ∙ on-file)
 
 -- ---- the pass
@@ -82,11 +86,12 @@ module _ (f groups : List ℕ) (live goal : ℕ) where
       pub pass-goal : {x : Refusal} → t ≡ Verdict.Refused x → refusalSaid x ≡ said (passOf f groups live goal)
       pass-goal q = behind-groups (stopped (passTest (r .articles) (r .order) live goal) (made (networkIn r)) h q)
 
-      -- the code looks at wishes only
-      pub pass-made : {x : ℕ} → t ≡ Verdict.Accepted → x ≡ pass (listed (r .articles) (r .wishes) []) (λ u. getD groups u 0) live goal → answered x ≡ said (passOf f groups live goal)
-      pass-made q p =
+      -- the code looks at wishes only; the pass was made with this live set and this goal, and x is handed on
+      pub pass-made : {x left live′ goal′ : ℕ} → t ≡ Verdict.Accepted → left ≡ pass (listed (r .articles) (r .wishes) []) (λ u. getD groups u 0) live′ goal′ → live′ ≡ live → goal′ ≡ goal → x ≡ left
+          → answered x ≡ said (passOf f groups live goal)
+      pass-made q p same-live same-goal told =
           behind-groups
-          (ap (λ (s : ℕ). value s) (p ∙ pass-listed (r .articles) (r .wishes) [] (r .clashes) (λ u. getD groups u 0) live goal)
+          (ap (λ (s : ℕ). value s) (told ∙ p ∙ ap₂ (pass (listed (r .articles) (r .wishes) []) (λ u. getD groups u 0)) same-live same-goal ∙ pass-listed (r .articles) (r .wishes) [] (r .clashes) (λ u. getD groups u 0) live goal)
           ∙ through (passTest (r .articles) (r .order) live goal) (made (networkIn r)) h q)
 
 -- ---- the choice
@@ -125,8 +130,10 @@ module _ (f groups goals : List ℕ) (floor : ℕ) where
           let (room, right) = groups-passed (networkIn r) groups e ok in
           (room, lent-right (networkIn r) (λ u. getD groups u 0) right, goals-within (r .order) goals (goals-passed (r .order) goals h q))
 
-      pub choose-made : {c : Choice} → t ≡ Verdict.Accepted → c ≡ chosen (networkIn r) (λ u. getD groups u 0) goals (r .order) floor → said (searched c) ≡ said (chooseOf f groups goals floor)
-      choose-made q p =
+      -- it was made for this order and from this floor on
+      pub choose-made : {c : Choice} {wanted from : ℕ} → t ≡ Verdict.Accepted → c ≡ chosen (networkIn r) (λ u. getD groups u 0) goals wanted from → wanted ≡ r .order → from ≡ floor
+          → said (searched c) ≡ said (chooseOf f groups goals floor)
+      choose-made q p same-order same-floor =
           behind-partition
-          (ap searched p ∙ searched-is (selection (networkIn r) (r .order) floor) (setAside (networkIn r) (λ u. getD groups u 0) goals)
+          (ap searched (p ∙ ap₂ (chosen (networkIn r) (λ u. getD groups u 0) goals) same-order same-floor) ∙ searched-is (selection (networkIn r) (r .order) floor) (setAside (networkIn r) (λ u. getD groups u 0) goals)
           ∙ through (goalsTest (r .order) goals) (chosenOver (networkIn r) (r .order)) h q)

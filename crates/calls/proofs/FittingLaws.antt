@@ -2,7 +2,7 @@
 use mathlib.Core.Path.{_≡_, refl, ap, ap₂, sym, _∙_, subst}
 use mathlib.Core.List.{List, _++_}
 use mathlib.Core.Option.{Option, none, some}
-use Prim.Native.Nat.{ℕ, zero, suc, _^_, _≤_, _<_}
+use Prim.Native.Nat.{ℕ, zero, suc, _+_, _-_, _^_, _≤_, _<_}
 use native.Mathlib.Decide.{decLt}
 use native.Mathlib.Omega.{arith}
 use lib.ListN.{length, getD, take, drop}
@@ -23,7 +23,7 @@ use Rattle.jobfile.specs.Answers.{padded}
 use Rattle.jobfile.specs.Read.{read, readJob, fittings}
 use Rattle.jobfile.proofs.ReadLaws.{padded-at}
 use Rattle.graph.specs.Rounds.{Fitting, fewest}
-use Rattle.graph.specs.Layers.{Layer, factsOver, factLayer, roundLayer}
+use Rattle.graph.specs.Layers.{Layer, vertices, factsOver, factLayer, roundOver, roundLayer}
 use Rattle.graph.specs.Back.{Sized}
 use Rattle.graph.proofs.WordLaws.{words-below}
 use Rattle.graph.proofs.LayerLaws.{facts-below}
@@ -37,6 +37,7 @@ use Rattle.lending.specs.Tests.{roomTest, layerTest, verdictOf}
 use Rattle.lending.proofs.TestLaws.{stopped, through}
 use Rattle.calls.specs.Layers.{factLayerIn, factLayerOf, roundLayerIn, roundLayerOf}
 use Rattle.calls.specs.Plan.{planIn, planOf, WordsIn, Buffer}
+use Rattle.calls.proofs.ToldLaws.{values, number, number-said}
 use Rattle.calls.proofs.CallLaws.{fitting-down, job-down, on-job, FittingRead}
 
 -- ---- the layers
@@ -90,13 +91,15 @@ module _ (f old : List ℕ) (k : ℕ) where
     pub facts-stopped : {v : Verdict} {x : Refusal} → v ≡ verdictOf (layerTest k 0 (r .horizon) (length old) 32) → v ≡ Verdict.Refused x → record { answer = refusalSaid x; buffer = old } ≡ factLayerOf f k old
     facts-stopped e q = ap (left old) (stopped (layerTest k 0 (r .horizon) (length old) 32) (value (factLayer 32 (fittingIn r) k)) e q ∙ facts-on)
 
-    pub facts-made : {v : Verdict} {m : ℕ} {ws new : List ℕ} → v ≡ verdictOf (layerTest k 0 (r .horizon) (length old) 32) → v ≡ Verdict.Accepted
-        → layer m ws ≡ roomy 64 (factLayer 32 (fittingIn r) k) → new ≡ take 32 ws ++ drop 32 old → record { answer = answered m; buffer = new } ≡ factLayerOf f k old
-    facts-made {m = m} {ws = ws} {new = new} e q made wrote =
+    -- layer j was made, and x handed on
+    pub facts-made : {v : Verdict} {x j m : ℕ} {ws new : List ℕ} → v ≡ verdictOf (layerTest k 0 (r .horizon) (length old) 32) → v ≡ Verdict.Accepted
+        → layer m ws ≡ roomy 64 (factLayer 32 (fittingIn r) j) → new ≡ take 32 ws ++ drop 32 old → j ≡ k → x ≡ m → record { answer = answered x; buffer = new } ≡ factLayerOf f k old
+    facts-made {m = m} {ws = ws} {new = new} e q drawn wrote asked told =
+        let made : layer m ws ≡ roomy 64 (factLayer 32 (fittingIn r) k) = drawn ∙ ap (λ (i : ℕ). roomy 64 (factLayer 32 (fittingIn r) i)) asked in
         let L = factLayer 32 (fittingIn r) k in
         let words : take 32 ws ≡ L .words = ap (λ M. take 32 (M .words)) made ∙ padded-front 32 64 (L .words) (facts-length 32 (fittingIn r) k) (omega arith) in
         let same : new ≡ L .words ++ drop (length (L .words)) old = wrote ∙ ap₂ (λ (x : List ℕ) (n : ℕ). x ++ drop n old) words (sym (facts-length 32 (fittingIn r) k)) in
-        ap₂ (λ (x : ℕ) (b : List ℕ). record { answer = answered x; buffer = b }) (ap (λ M. M .members) made) same
+        ap₂ (λ (x : ℕ) (b : List ℕ). record { answer = answered x; buffer = b }) (told ∙ ap (λ M. M .members) made) same
         ∙ ap (left old) (through (layerTest k 0 (r .horizon) (length old) 32) (value L) e q ∙ facts-on)
 
     abbrev roundsIn : Fitting → Answer Layer
@@ -108,13 +111,18 @@ module _ (f old : List ℕ) (k : ℕ) where
     pub vertices-stopped : {v : Verdict} {x : Refusal} → v ≡ verdictOf (layerTest k 1 (r .horizon) (length old) 64) → v ≡ Verdict.Refused x → record { answer = refusalSaid x; buffer = old } ≡ roundLayerOf f k old
     vertices-stopped e q = ap (left old) (stopped (layerTest k 1 (r .horizon) (length old) 64) (value (roundLayer 32 (fittingIn r) k)) e q ∙ rounds-on)
 
-    pub vertices-made : {v : Verdict} {m : ℕ} {ws new : List ℕ} → v ≡ verdictOf (layerTest k 1 (r .horizon) (length old) 64) → v ≡ Verdict.Accepted
-        → layer m ws ≡ roundLayer 32 (fittingIn r) k → new ≡ ws ++ drop 64 old → record { answer = answered m; buffer = new } ≡ roundLayerOf f k old
-    vertices-made {m = m} {ws = ws} {new = new} e q made wrote =
+    -- the round layer over fact layer j was made, and x handed on
+    abbrev roundAfter : ℕ → Layer
+    roundAfter j = roundOver 32 (vertices 32 (fittingIn r)) (32 + r .steps) (factLayer 32 (fittingIn r) j)
+
+    pub vertices-made : {v : Verdict} {x j m : ℕ} {ws new : List ℕ} → v ≡ verdictOf (layerTest k 1 (r .horizon) (length old) 64) → v ≡ Verdict.Accepted
+        → layer m ws ≡ roundAfter j → new ≡ ws ++ drop 64 old → j ≡ k - 1 → x ≡ m → record { answer = answered x; buffer = new } ≡ roundLayerOf f k old
+    vertices-made {m = m} {ws = ws} {new = new} e q drawn wrote asked told =
+        let made : layer m ws ≡ roundLayer 32 (fittingIn r) k = drawn ∙ ap roundAfter asked in
         let L = roundLayer 32 (fittingIn r) k in
         let same : new ≡ L .words ++ drop (length (L .words)) old =
         wrote ∙ ap₂ (λ (x : List ℕ) (n : ℕ). x ++ drop n old) (ap (λ M. M .words) made) (sym (rounds-length 32 (fittingIn r) k)) in
-        ap₂ (λ (x : ℕ) (b : List ℕ). record { answer = answered x; buffer = b }) (ap (λ M. M .members) made) same
+        ap₂ (λ (x : ℕ) (b : List ℕ). record { answer = answered x; buffer = b }) (told ∙ ap (λ M. M .members) made) same
         ∙ ap (left old) (through (layerTest k 1 (r .horizon) (length old) 64) (value L) e q ∙ rounds-on)
 
 -- ---- the plan
@@ -130,7 +138,11 @@ module _ (f old new : List ℕ) where
   pub plan-down : {v : Verdict} {x : Refusal} → v ≡ Answers.fittingOf (read spots fittings f) .verdict → v ≡ Verdict.Refused x → new ≡ old → Promised (refusalSaid x)
   plan-down {x = x} p q same = subst (by (refusalSaid x)) (sym (fitting-down f p q)) (refl, same)
 
-  module _ (r : ReadFitting) (R : FittingRead f r) {v : Verdict} (e : v ≡ verdictOf (roomTest (length old) (r .horizon))) where
+  -- so many words were demanded
+  module _ (r : ReadFitting) (R : FittingRead f r) {v : Verdict} {size : ℕ} (room : v ≡ verdictOf (roomTest (length old) size)) (as-read : size ≡ r .horizon) where
+    e : v ≡ verdictOf (roomTest (length old) (r .horizon))
+    e = room ∙ ap (λ (n : ℕ). verdictOf (roomTest (length old) n)) as-read
+
     -- over a fitting
     abbrev planOver : Fitting → Answer ℕ
     planOver F = behind (roomTest (length old) (F .horizon)) (found (fewest F (F .horizon)) NoPlan)
@@ -152,12 +164,15 @@ module _ (f old new : List ℕ) where
       tested : {a : Answer ℕ} → a ≡ found (fewest (fittingIn r) (r .horizon)) NoPlan → WordsIn (fittingIn r) old new a → Promised (said a)
       tested k w = on-file (with-words (k ∙ through (roomTest (length old) (r .horizon)) (found (fewest (fittingIn r) (r .horizon)) NoPlan) e ok) w)
 
-      pub plan-made : {k : ℕ} → m ≡ Planned.Rounds k → Promised (answered k)
-      plan-made {k} q = tested (go (fewest (fittingIn r) (r .horizon)) (sym p ∙ q)) (subst (Words (fittingIn r) old new) q words)
+      rounds-made : {k : ℕ} → m ≡ Planned.Rounds k → Promised (answered k)
+      rounds-made {k} q = tested (go (fewest (fittingIn r) (r .horizon)) (sym p ∙ q)) (subst (Words (fittingIn r) old new) q words)
         where
           go : (o : Option ℕ) → plannedBy o ≡ Planned.Rounds k → value k ≡ found o NoPlan
           go (some j) h = let s : j ≡ k = cc in sym (ap (λ (i : ℕ). value i) s)
           go none h = let z : _≡_ {A = ℕ} 0 1 = cc in absurd (omega arith)
+
+      pub plan-made : {t : Said ℕ} {k : ℕ} → m ≡ Planned.Rounds k → values t ≡ 1 → number t ≡ k → Promised t
+      plan-made {t} q one told = subst Promised (sym (number-said t one told)) (rounds-made q)
 
       pub plan-none : m ≡ Planned.Nothing → Promised (said (refusal NoPlan 0))
       plan-none q = tested (go (fewest (fittingIn r) (r .horizon)) (sym p ∙ q)) (subst (Words (fittingIn r) old new) q words)

@@ -1,5 +1,6 @@
 -- The laws that the open calls are proved with.
 pub mod CallLaws
+pub mod ToldLaws
 pub mod ChoiceLaws
 pub mod OfferLaws
 pub mod FittingLaws

@@ -29,7 +29,14 @@ use Rattle.matching.proofs.SameLaws.{padded-same, search-cong}
 use Rattle.lending.specs.Answers.{Answer, value, onJob, found, Said, answered, said, refusalSaid}
 use Rattle.calls.specs.Find.{findIn, findOf}
 use Rattle.calls.specs.Compare.{compareOf}
-use Rattle.calls.proofs.CallLaws.{Taken, choice-taken, fitting-taken, choice-down, fitting-down, job-down}
+use Rattle.calls.proofs.CallLaws.{Taken, choice-taken, fitting-taken, choice-down, choice-down-as, fitting-down, job-down, faultIn, placeIn, takenIn}
+use Rattle.calls.proofs.ToldLaws.{values, one, tested, test-said}
+
+-- ---- naming
+
+-- the spot of entry n, where that is the one asked for
+pub spot-asked : (g : Got (Job Spot)) {s : Spot} {n asked : ℕ} → s ≡ spotIn g n → n ≡ asked → s ≡ spotIn g asked
+spot-asked g e same = e ∙ ap (spotIn g) same
 
 -- ---- finding: a file is read as its first byte says
 
@@ -58,24 +65,25 @@ search-is f name takes t n starts lens en h =
     ∙ sym (ap (λ g. onJob g (λ job. findIn job name)) (read-same f takes ∙ ap (mapGot (jobBy f)) (t .is)))
 
 module _ (f name : List ℕ) {b : Bool} (kind : b ≡ eqb (getD f 0 0) 70) {s : Said ℕ} {o : Option ℕ} (told : s ≡ said (found o NameNotFound)) where
-  pub find-fitting : (r : ReadFitting) → b ≡ true → r ≡ fittingOf (read spots fittings f) → FittingBounds f r → r .verdict ≡ Verdict.Accepted
-      → o ≡ lowestNamed name (r .steps) (λ i. take (getD (r .lens) i 0) (drop (getD (r .starts) i 0) f)) → s ≡ said (findOf f name)
-  find-fitting r c e bounds accepted p =
+  -- the search was over n names
+  pub find-fitting : {n : ℕ} (r : ReadFitting) → b ≡ true → r ≡ fittingOf (read spots fittings f) → FittingBounds f r → r .verdict ≡ Verdict.Accepted
+      → o ≡ lowestNamed name n (λ i. take (getD (r .lens) i 0) (drop (getD (r .starts) i 0) f)) → n ≡ r .steps → s ≡ said (findOf f name)
+  find-fitting {n} r c e bounds accepted p all =
       let g = read spots fittings f in
       let t = fitting-taken g (ap (λ x. x .verdict) e) accepted in
       told
       ∙ ap said (ap (λ (o : Option ℕ). found o NameNotFound) p
-      ∙ search-is f name fittings t (r .steps) (r .starts) (r .lens) (ap (λ x. x .steps) e ∙ ap (λ x. fittingOf x .steps) (t .is)) (λ i. ap (λ x. spotOf (x .starts) (x .lens) i) e ∙ fitting-spot g (bounds .4) i)
+      ∙ search-is f name fittings t n (r .starts) (r .lens) (all ∙ ap (λ x. x .steps) e ∙ ap (λ x. fittingOf x .steps) (t .is)) (λ i. ap (λ x. spotOf (x .starts) (x .lens) i) e ∙ fitting-spot g (bounds .4) i)
       ∙ of-fitting f name (sym kind ∙ c))
 
-  pub find-choice : (r : ReadChoice) → b ≡ false → r ≡ choiceOf (read spots choices f) → ChoiceBounds f r → r .verdict ≡ Verdict.Accepted
-      → o ≡ lowestNamed name (r .articles) (λ i. take (getD (r .lens) i 0) (drop (getD (r .starts) i 0) f)) → s ≡ said (findOf f name)
-  find-choice r c e bounds accepted p =
+  pub find-choice : {n : ℕ} (r : ReadChoice) → b ≡ false → r ≡ choiceOf (read spots choices f) → ChoiceBounds f r → r .verdict ≡ Verdict.Accepted
+      → o ≡ lowestNamed name n (λ i. take (getD (r .lens) i 0) (drop (getD (r .starts) i 0) f)) → n ≡ r .articles → s ≡ said (findOf f name)
+  find-choice {n} r c e bounds accepted p all =
       let g = read spots choices f in
       let t = choice-taken g (ap (λ x. x .verdict) e) accepted in
       told
       ∙ ap said (ap (λ (o : Option ℕ). found o NameNotFound) p
-      ∙ search-is f name choices t (r .articles) (r .starts) (r .lens) (ap (λ x. x .articles) e ∙ ap (λ x. choiceOf x .articles) (t .is)) (λ i. ap (λ x. spotOf (x .starts) (x .lens) i) e ∙ choice-spot g (bounds .3) i)
+      ∙ search-is f name choices t n (r .starts) (r .lens) (all ∙ ap (λ x. x .articles) e ∙ ap (λ x. choiceOf x .articles) (t .is)) (λ i. ap (λ x. spotOf (x .starts) (x .lens) i) e ∙ choice-spot g (bounds .3) i)
       ∙ of-choice f name (sym kind ∙ c))
 
 -- ---- comparing
@@ -102,8 +110,11 @@ module _ (f s : List ℕ) where
   abbrev compared : Got (Job (List ℕ)) → Got (Job (List ℕ)) → Answer Bool
   compared g h = onJob g (λ a. onJob h (λ b. value (alike a b)))
 
-  pub compare-first : {v : Verdict} {x : Refusal} → v ≡ choiceOf (read spots choices f) .verdict → v ≡ Verdict.Refused x → refusalSaid x ≡ said (compareOf f s)
-  compare-first p q = ap said (job-down (λ a. onJob (readJob choices s) (λ b. value (alike a b))) (choice-down f p q))
+  -- g was read first, and its reading has the numbers of f
+  pub compare-first : (g : List ℕ) {v : Verdict} {x : Refusal} → v ≡ choiceOf (read spots choices g) .verdict → v ≡ Verdict.Refused x
+      → faultIn (read spots choices g) ≡ faultIn (read spots choices f) → placeIn (read spots choices g) ≡ placeIn (read spots choices f) → takenIn (read spots choices g) ≡ takenIn (read spots choices f)
+      → refusalSaid x ≡ said (compareOf f s)
+  compare-first g p q fault place t = ap said (job-down (λ a. onJob (readJob choices s) (λ b. value (alike a b))) (choice-down-as f g p q fault place t))
 
   module _ (a : ReadChoice) (ea : a ≡ choiceOf (read spots choices f)) (ba : ChoiceBounds f a) (va : a .verdict ≡ Verdict.Accepted) where
     first : Taken (read spots choices f)
@@ -115,11 +126,16 @@ module _ (f s : List ℕ) where
     pub compare-second : {v : Verdict} {x : Refusal} → v ≡ choiceOf (read spots choices s) .verdict → v ≡ Verdict.Refused x → refusalSaid x ≡ said (compareOf f s)
     compare-second p q = ap said (sym (ap₂ compared is-first (choice-down s p q)))
 
-    pub compare-both : (b : ReadChoice) {r t : Bool} → b ≡ choiceOf (read spots choices s) → ChoiceBounds s b → b .verdict ≡ Verdict.Accepted → r ≡ byArrays a b → r ≡ t → answered t ≡ said (compareOf f s)
-    compare-both b eb bb vb e k =
+    both-read : (b : ReadChoice) {r t : Bool} → b ≡ choiceOf (read spots choices s) → ChoiceBounds s b → b .verdict ≡ Verdict.Accepted → r ≡ byArrays a b → r ≡ t → answered t ≡ said (compareOf f s)
+    both-read b eb bb vb e k =
         let second = choice-taken (read spots choices s) (ap (λ x. x .verdict) eb) vb in
         ap (λ (x : Bool). answered x) (
         sym k ∙ e ∙ ap₂ byArrays (ea ∙ ap choiceOf (first .is)) (eb ∙ ap choiceOf (second .is))
         ∙ alike-is (first .job) (second .job) (first .end) (second .end) (subst (Few 64) (first .is) (ba .3)) (subst (Few 64) (second .is) (bb .3)) ∙ sym (alike-by f s (first .job) (second .job))
         )
         ∙ ap said (sym (ap₂ compared is-first (read-same s choices ∙ ap (mapGot (jobBy s)) (second .is))))
+
+    -- r is what the test of both said, and t what is told of it
+    pub compare-both : (b : ReadChoice) {r : Bool} (is : Bool) {t : Said Bool} → b ≡ choiceOf (read spots choices s) → ChoiceBounds s b → b .verdict ≡ Verdict.Accepted → r ≡ byArrays a b → r ≡ is
+        → values t ≡ 1 → tested t ≡ one is → t ≡ said (compareOf f s)
+    compare-both b is {t} eb bb vb e k v told = test-said t is v told ∙ both-read b eb bb vb e k

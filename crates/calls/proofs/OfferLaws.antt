@@ -73,10 +73,11 @@ module _ (f : List ℕ) where
   pub offer-down : {v : Verdict} {x : Refusal} → v ≡ choiceOf (read spots choices f) .verdict → v ≡ Verdict.Refused x → refusalSaid x ≡ said (offerOf f)
   offer-down p q = ap said (job-down (λ job. offerIn job) (choice-down f p q))
 
-  pub offer-made : (r : ReadChoice) → ChoiceRead f r → {c : Choice} → c ≡ offered (networkIn r) (r .order) → said (searched c) ≡ said (offerOf f)
-  offer-made r R p =
+  -- the choice was made for this order
+  pub offer-made : (r : ReadChoice) → ChoiceRead f r → {c : Choice} {wanted : ℕ} → c ≡ offered (networkIn r) wanted → wanted ≡ r .order → said (searched c) ≡ said (offerOf f)
+  offer-made r R p same-order =
       let N = networkIn r in
       ap said (
-      ap searched p ∙ searched-is (selection N (r .order) 0) (setAside N (groupOf N) (soleGoal (r .order))) ∙ own-passed N (r .order)
+      ap searched (p ∙ ap (offered (networkIn r)) same-order) ∙ searched-is (selection N (r .order) 0) (setAside N (groupOf N) (soleGoal (r .order))) ∙ own-passed N (r .order)
       ∙ ap₂ offerOver (R .network) (R .wanted) ∙ on-job (λ job. offerIn job) (R .is)
       )

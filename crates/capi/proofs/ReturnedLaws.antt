@@ -2,15 +2,40 @@
 use mathlib.Core.Path.{_≡_, sym, ap, ap₂, _∙_}
 use mathlib.Core.List.{List, [], _∷_}
 use Prim.Native.Nat.{ℕ}
+use lib.ListN.{getD}
+use Rattle.reading.specs.declared.Spot.{Spot}
 use Rattle.lending.specs.Answers.{Said, refusedBy, answered}
-use Rattle.capi.specs.Returned.{Returned, returned}
+use Rattle.capi.specs.Returned.{Returned, returned, spotted}
 
 abbrev handed : ℕ → List ℕ → Returned
 handed status words = record { status = status; words = words }
 
-module _ {A : Type 0} (words : A → List ℕ) {s : Said A} {status : ℕ} {out : List ℕ} where
-  pub value-handed : {x : A} → s ≡ answered x → status ≡ 0 → out ≡ words x → record { status = status; words = out } ≡ returned words s
-  value-handed e t o = ap₂ handed t o ∙ sym (ap (returned words) e)
+abbrev pair : ℕ → ℕ → List ℕ
+pair first second = first ∷ second ∷ []
 
-  pub refusal-handed : {number place : ℕ} → s ≡ refusedBy number place → status ≡ number → out ≡ place ∷ 0 ∷ [] → record { status = status; words = out } ≡ returned words s
-  refusal-handed e t o = ap₂ handed t o ∙ sym (ap (returned words) e)
+-- ---- the words that were written, one by one
+
+pub words-are : {a b p q : ℕ} → a ≡ p → b ≡ q → a ∷ b ∷ [] ≡ p ∷ q ∷ []
+words-are first second = ap₂ pair first second
+
+module _ {out : List ℕ} {a b : ℕ} (o : out ≡ a ∷ b ∷ []) where
+  pub first-word : getD out 0 0 ≡ a
+  first-word = ap (λ l. getD l 0 0) o
+
+  pub second-word : getD out 1 0 ≡ b
+  second-word = ap (λ l. getD l 1 0) o
+
+  by-words : {p q : ℕ} → getD out 0 0 ≡ p → getD out 1 0 ≡ q → out ≡ p ∷ q ∷ []
+  by-words first second = o ∙ words-are (sym first-word ∙ first) (sym second-word ∙ second)
+
+-- ---- what is handed back, from its status and its two words
+
+module _ {A : Type 0} (words : A → List ℕ) {s : Said A} {status a b : ℕ} {out : List ℕ} where
+  pub value-handed : {x : A} {p q : ℕ} → s ≡ answered x → words x ≡ p ∷ q ∷ [] → out ≡ a ∷ b ∷ [] → status ≡ 0 → getD out 0 0 ≡ p → getD out 1 0 ≡ q → record { status = status; words = out } ≡ returned words s
+  value-handed e w o t first second = ap₂ handed t (by-words o first second ∙ sym w) ∙ sym (ap (returned words) e)
+
+  pub refusal-handed : {number place : ℕ} → s ≡ refusedBy number place → out ≡ a ∷ b ∷ [] → status ≡ number → getD out 0 0 ≡ place → getD out 1 0 ≡ 0 → record { status = status; words = out } ≡ returned words s
+  refusal-handed e o t first second = ap₂ handed t (by-words o first second) ∙ sym (ap (returned words) e)
+
+pub spot-handed : {x spot : Spot} {status a b : ℕ} {out : List ℕ} → x ≡ spot → out ≡ a ∷ b ∷ [] → status ≡ 0 → getD out 0 0 ≡ x .start → getD out 1 0 ≡ x .len → record { status = status; words = out } ≡ spotted spot
+spot-handed e o t first second = ap₂ handed t (by-words o first second) ∙ ap spotted e

@@ -1,6 +1,7 @@
 -- `calls::choose` meets its contract: each return by what the reader, the tests and the search told.
 use borrow.Author.Needs.{needs}
 use mathlib.Core.Path.{ap, _∙_}
+use native.Mathlib.Omega.{arith}
 use denote.Ref.{now}
 use Rattle.calls.proofs.CallLaws.{choice-read}
 use Rattle.calls.proofs.ChoiceLaws.{choose-down, choose-groups, choose-goals, choose-may, choose-made}
@@ -70,7 +71,7 @@ returns-4 c =
     let r = c .before .before .before .before .before .before .before .before .before .before .before .before .before .before .read-choice in
     let R = choice-read (now (a .file)) (r .result) (r .ensures .0) (r .ensures .1) (c .before .before .before .before .before .before .before .before .before .before .before .before .enum-told .given .1) in
     c .searched .ensures
-    ∙ choose-made (now (a .file)) (now (a .groups)) (now (a .goals)) (a .floor) (r .result) R (c .before .before .before .before .before .before .before .before .before .before .before .groups .ensures) (c .before .before .before .before .before .before .before .before .before .enum-told2 .given .1) (c .before .before .before .before .before .before .before .before .goals .ensures) (c .before .before .before .before .before .before .enum-told3 .given .1) (c .before .choose .ensures)
+    ∙ choose-made (now (a .file)) (now (a .groups)) (now (a .goals)) (a .floor) (r .result) R (c .before .before .before .before .before .before .before .before .before .before .before .groups .ensures) (c .before .before .before .before .before .before .before .before .before .enum-told2 .given .1) (c .before .before .before .before .before .before .before .before .goals .ensures) (c .before .before .before .before .before .before .enum-told3 .given .1) (c .before .choose .ensures) (omega arith) (omega arith)
 
 pub choose-spec : {M : Type 1} → statement M
 choose-spec =

@@ -1,6 +1,7 @@
 -- `calls::fact_layer` meets its contract: each return by what the reader, the test and the layers told.
 use borrow.Author.Needs.{needs}
 use mathlib.Core.Path.{ap}
+use native.Mathlib.Omega.{arith}
 use denote.Ref.{now}
 use lib.ListN.{length}
 use Rattle.layering.specs.Drawn.{fittingIn}
@@ -50,12 +51,12 @@ facts-requires : tie.Need-facts-requires
 facts-requires c κs =
     let r = c .before .before .before .before .before .before .before .before .before .read-fitting in
     let a = c .before .before .before .before .before .before .before .before .before .before .before .before .args in
-    (layer-passed (a .k) 0 (r .result .horizon) (length (now (a .words))) 32 (c .before .before .before .before .before .before .layer .ensures) (c .before .before .before .before .enum-told2 .given .1) .2, words-fit (fittingIn (r .result)) (a .k) (c .before .before .before .fact-layer .ensures))
+    (layer-passed (a .k) 0 (r .result .horizon) (length (now (a .words))) 32 (c .before .before .before .before .before .before .layer .ensures) (c .before .before .before .before .enum-told2 .given .1) .2, words-fit (fittingIn (r .result)) _ (c .before .before .before .fact-layer .ensures))
 
 cast-t16 : tie.Need-cast-t16
 cast-t16 c =
     let r = c .before .before .before .before .before .before .before .before .before .before .before .before .before .read-fitting in
-    let fits = facts-fit (fittingIn (r .result)) (c .before .before .before .before .before .before .before .before .before .before .before .before .before .before .before .before .args .k) (c .before .before .before .before .before .before .before .fact-layer .ensures) (sized-read (now (c .before .before .before .before .before .before .before .before .before .before .before .before .before .before .before .before .args .file)) (r .result) (r .ensures .0) (r .ensures .1)) in
+    let fits = facts-fit (fittingIn (r .result)) _ (c .before .before .before .before .before .before .before .fact-layer .ensures) (sized-read (now (c .before .before .before .before .before .before .before .before .before .before .before .before .before .before .before .before .args .file)) (r .result) (r .ensures .0) (r .ensures .1)) in
     search needs
 
 same-length : tie.Need-same-length
@@ -66,7 +67,7 @@ returns-3 c =
     let a = c .before .before .before .before .before .before .before .before .before .before .before .before .before .before .before .before .args in
     let r = c .before .before .before .before .before .before .before .before .before .before .before .before .before .read-fitting in
     let R = fitting-job (now (a .file)) (r .result) (r .ensures .0) (r .ensures .1) (c .before .before .before .before .before .before .before .before .before .before .before .enum-told .given .1) in
-    facts-made (now (a .file)) (now (a .words)) (a .k) (r .result) R (c .before .before .before .before .before .before .before .before .before .before .layer .ensures) (c .before .before .before .before .before .before .before .before .enum-told2 .given .1) (c .before .before .before .before .before .before .before .fact-layer .ensures) (c .before .before .before .facts .ensures)
+    facts-made (now (a .file)) (now (a .words)) (a .k) (r .result) R (c .before .before .before .before .before .before .before .before .before .before .layer .ensures) (c .before .before .before .before .before .before .before .before .enum-told2 .given .1) (c .before .before .before .before .before .before .before .fact-layer .ensures) (c .before .before .before .facts .ensures) (omega arith) (omega arith)
 
 pub fact-layer-spec : {M : Type 1} → statement M
 fact-layer-spec =

@@ -1,6 +1,7 @@
 -- `calls::find` meets its contract: by the kind of the file, the search over what its reader told.
 use borrow.Author.Needs.{needs}
 use mathlib.Core.Path.{ap}
+use native.Mathlib.Omega.{arith}
 use denote.Ref.{now}
 use Rattle.calls.proofs.NameLaws.{find-down-fitting, find-down-choice, find-fitting, find-choice}
 use Rattle.calls.proofs.find.Statement.{statement}
@@ -33,7 +34,7 @@ returns-2 : tie.Need-returns-2
 returns-2 c =
     let a = c .before .before .before .before .before .before .before .before .before .before .before .args in
     let r = c .before .before .before .before .before .before .read-fitting in
-    find-fitting (now (a .file)) (now (a .name)) (c .before .before .before .before .before .before .before .before .is-fitting .ensures) (c .found .ensures) (r .result) (c .before .before .before .before .before .before .before .if1 .taken) (r .ensures .0) (r .ensures .1) (c .before .before .before .before .enum-told .given .1) (c .before .search .ensures)
+    find-fitting (now (a .file)) (now (a .name)) (c .before .before .before .before .before .before .before .before .is-fitting .ensures) (c .found .ensures) (r .result) (c .before .before .before .before .before .before .before .if1 .taken) (r .ensures .0) (r .ensures .1) (c .before .before .before .before .enum-told .given .1) (c .before .search .ensures) (omega arith)
 
 read-choice-requires : tie.Need-read-choice-requires
 read-choice-requires c κs = search needs
@@ -59,7 +60,7 @@ returns-4 : tie.Need-returns-4
 returns-4 c =
     let a = c .before .before .before .before .before .before .before .before .before .before .before .args in
     let r = c .before .before .before .before .before .before .read-choice in
-    find-choice (now (a .file)) (now (a .name)) (c .before .before .before .before .before .before .before .before .is-fitting .ensures) (c .found2 .ensures) (r .result) (c .before .before .before .before .before .before .before .if1 .left) (r .ensures .0) (r .ensures .1) (c .before .before .before .before .enum-told2 .given .1) (c .before .search2 .ensures)
+    find-choice (now (a .file)) (now (a .name)) (c .before .before .before .before .before .before .before .before .is-fitting .ensures) (c .found2 .ensures) (r .result) (c .before .before .before .before .before .before .before .if1 .left) (r .ensures .0) (r .ensures .1) (c .before .before .before .before .enum-told2 .given .1) (c .before .search2 .ensures) (omega arith)
 
 pub find-spec : {M : Type 1} → statement M
 find-spec =

@@ -1,9 +1,11 @@
 -- `calls::found` meets its contract.
 use borrow.Author.Needs.{needs}
 use mathlib.Core.Path.{ap, sym, _∙_}
+use native.Mathlib.Omega.{arith}
 use Rattle.reading.specs.declared.Reason.the-variants.{NameNotFound}
 use Rattle.matching.specs.Names.{placeOf}
 use Rattle.lending.specs.Answers.{found, said, refusalSaid}
+use Rattle.calls.proofs.ToldLaws.{seen, found-said}
 use Rattle.calls.proofs.found.Statement.{statement}
 use Rattle.calls.proofs.found.Tie as tie
 
@@ -17,7 +19,7 @@ refusal-at-requires : tie.Need-refusal-at-requires
 refusal-at-requires c κs = search needs
 
 returns : tie.Need-returns
-returns c = sym (ap (λ n. said (found (placeOf n) NameNotFound)) (c .before .named .given .1))
+returns c = found-said NameNotFound (c .before .named .given .1) (seen (λ values is. omega arith)) (omega arith)
 
 returns-2 : tie.Need-returns-2
 returns-2 c = ap refusalSaid (c .refusal-at .ensures) ∙ sym (ap (λ n. said (found (placeOf n) NameNotFound)) (c .before .enum-told .given .1))

@@ -4,8 +4,10 @@ use mathlib.Core.Path.{_≡_, sym, ap, _∙_}
 use Prim.Native.Nat.{ℕ, _+_, _-_}
 use native.Mathlib.Omega.{arith}
 use lib.ListN.{take, drop}
-use Rattle.jobfile.specs.Read.{either}
+use Rattle.reading.specs.Items.{spots}
+use Rattle.jobfile.specs.Read.{read, either}
 use Rattle.jobfile.proofs.NamingLaws.{bytesAt, name-at-spot}
+use Rattle.calls.proofs.NameLaws.{spot-asked}
 use Rattle.calls.proofs.name.Statement.{statement}
 use Rattle.calls.proofs.name.Tie as tie
 
@@ -29,7 +31,7 @@ returns c =
     let f = c .before .before .before .before .args .file .now in
     let s = c .before .before .spot .result in
     let e : s .start + s .len - s .start ≡ s .len = omega arith in
-    ap (λ (n : ℕ). take n (drop (s .start) f)) e ∙ ap (bytesAt f) (c .before .before .spot .ensures .0) ∙ sym (name-at-spot f either (c .before .before .before .before .args .number))
+    ap (λ (n : ℕ). take n (drop (s .start) f)) e ∙ ap (bytesAt f) (spot-asked (read spots either f) (c .before .before .spot .ensures .0) (omega arith)) ∙ sym (name-at-spot f either (c .before .before .before .before .args .number))
 
 pub name-spec : {M : Type 1} → statement M
 name-spec =

@@ -1,6 +1,7 @@
 -- `calls::offer` meets its contract: each return by what the reader and the choice told.
 use borrow.Author.Needs.{needs}
 use mathlib.Core.Path.{ap, _∙_}
+use native.Mathlib.Omega.{arith}
 use denote.Ref.{now}
 use Rattle.calls.proofs.CallLaws.{choice-read}
 use Rattle.calls.proofs.OfferLaws.{offer-down, offer-made}
@@ -30,7 +31,7 @@ returns-2 c =
     let a = c .before .before .before .before .before .before .args in
     let r = c .before .before .before .before .read-choice in
     let R = choice-read (now (a .file)) (r .result) (r .ensures .0) (r .ensures .1) (c .before .before .enum-told .given .1) in
-    c .searched .ensures ∙ offer-made (now (a .file)) (r .result) R (c .before .offer .ensures)
+    c .searched .ensures ∙ offer-made (now (a .file)) (r .result) R (c .before .offer .ensures) (omega arith)
 
 pub offer-spec : {M : Type 1} → statement M
 offer-spec =

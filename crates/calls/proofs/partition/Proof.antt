@@ -1,7 +1,10 @@
 -- `calls::partition` meets its contract: each return by what the reader and the test told.
 use borrow.Author.Needs.{needs}
 use mathlib.Core.Path.{ap}
+use Prim.Native.Nat.{_≤_}
+use native.Mathlib.Omega.{arith}
 use denote.Ref.{now}
+use lib.ListN.{length}
 use Rattle.lending.proofs.TestLaws.{room-passed}
 use Rattle.calls.proofs.CallLaws.{choice-read}
 use Rattle.calls.proofs.ChoiceLaws.{partition-down, partition-short, partition-made}
@@ -33,13 +36,17 @@ returns-2 c =
     let a = c .before .before .before .before .before .before .before .before .before .args in
     let r = c .before .before .before .before .before .before .read-choice in
     let R = choice-read (now (a .file)) (r .result) (r .ensures .0) (r .ensures .1) (c .before .before .before .before .enum-told .given .1) in
-    partition-short (now (a .file)) (now (a .groups)) (r .result) R (c .before .before .before .room .ensures) (c .before .tested .given .1)
+    partition-short (now (a .file)) (now (a .groups)) (r .result) R (c .before .before .before .room .ensures) (omega arith) (c .before .tested .given .1)
 
 enum-told-2 : tie.Need-enum-told-2
 enum-told-2 c = search needs
 
 partition-requires : tie.Need-partition-requires
-partition-requires c κs = ((c .before .before .before .before .before .before .before .before .read-choice .ensures .1 .0), room-passed _ _ (c .before .before .before .before .before .room .ensures) (c .before .before .before .enum-told2 .given .1))
+partition-requires c κs =
+    let r = c .before .before .before .before .before .before .before .before .read-choice in
+    let few = r .ensures .1 .0 in
+    let room : r .result .articles ≤ length (now (c .before .before .before .before .before .before .before .before .before .before .before .args .groups)) = room-passed _ _ (c .before .before .before .before .before .room .ensures) (c .before .before .before .enum-told2 .given .1) in
+    (omega arith, omega arith)
 
 same-length : tie.Need-same-length
 same-length c = search needs
@@ -49,7 +56,7 @@ returns-3 c =
     let a = c .before .before .before .before .before .before .before .before .before .before .before .before .before .before .args in
     let r = c .before .before .before .before .before .before .before .before .before .before .before .read-choice in
     let R = choice-read (now (a .file)) (r .result) (r .ensures .0) (r .ensures .1) (c .before .before .before .before .before .before .before .before .before .enum-told .given .1) in
-    partition-made (now (a .file)) (now (a .groups)) (r .result) R (c .before .before .before .before .before .before .before .before .room .ensures) (c .before .before .before .before .before .before .enum-told2 .given .1) (c .before .before .partition .ensures)
+    partition-made (now (a .file)) (now (a .groups)) (r .result) R (c .before .before .before .before .before .before .before .before .room .ensures) (omega arith) (c .before .before .before .before .before .before .enum-told2 .given .1) (c .before .before .partition .ensures) (omega arith)
 
 pub partition-spec : {M : Type 1} → statement M
 partition-spec =

@@ -1,11 +1,13 @@
 -- `calls::plan` meets its contract: each return by what the reader, the test and the planner told.
 use borrow.Author.Needs.{needs}
 use mathlib.Core.Path.{refl, ap, sym, subst}
+use native.Mathlib.Omega.{arith}
 use denote.Ref.{now}
 use Rattle.lending.specs.Answers.{refusalSaid}
 use Rattle.lending.proofs.TestLaws.{room-passed}
 use Rattle.expansion.proofs.ReadLaws.{sized-read}
 use Rattle.calls.proofs.CallLaws.{fitting-job}
+use Rattle.calls.proofs.ToldLaws.{seen}
 use Rattle.calls.proofs.FittingLaws.{Promised, plan-down, plan-short, plan-made, plan-none}
 use Rattle.calls.proofs.plan.Statement.{statement}
 use Rattle.calls.proofs.plan.Tie as tie
@@ -35,7 +37,7 @@ returns-2 c =
     let a = c .before .before .before .before .before .before .before .before .before .args in
     let r = c .before .before .before .before .before .before .read-fitting in
     let R = fitting-job (now (a .file)) (r .result) (r .ensures .0) (r .ensures .1) (c .before .before .before .before .enum-told .given .1) in
-    plan-short (now (a .file)) (now (a .words)) _ (r .result) R (c .before .before .before .room .ensures) (c .before .tested .given .1) refl
+    plan-short (now (a .file)) (now (a .words)) _ (r .result) R (c .before .before .before .room .ensures) (omega arith) (c .before .tested .given .1) refl
 
 enum-told-2 : tie.Need-enum-told-2
 enum-told-2 c = search needs
@@ -63,7 +65,7 @@ returns-3 c =
     let r = c .before .before .before .before .before .before .before .before .before .before .before .before .read-fitting in
     let R = fitting-job (now (a .file)) (r .result) (r .ensures .0) (r .ensures .1) (c .before .before .before .before .before .before .before .before .before .before .enum-told .given .1) in
     let p = c .before .before .before .before .before .plan in
-    plan-made (now (a .file)) (now (a .words)) (p .last .1 .0) (r .result) R (c .before .before .before .before .before .before .before .before .before .room .ensures) (c .before .before .before .before .before .before .before .enum-told2 .given .1) (p .ensures .0) (p .ensures .1) (c .before .made .given .1)
+    plan-made (now (a .file)) (now (a .words)) (p .last .1 .0) (r .result) R (c .before .before .before .before .before .before .before .before .before .room .ensures) (omega arith) (c .before .before .before .before .before .before .before .enum-told2 .given .1) (p .ensures .0) (p .ensures .1) (c .before .made .given .1) (seen (λ values is. omega arith)) (omega arith)
 
 same-length-2 : tie.Need-same-length-2
 same-length-2 c = search needs
@@ -75,7 +77,7 @@ returns-4 c =
     let R = fitting-job (now (a .file)) (r .result) (r .ensures .0) (r .ensures .1) (c .before .before .before .before .before .before .before .before .before .before .enum-told .given .1) in
     let p = c .before .before .before .before .before .plan in
     subst (λ x. Promised (now (a .file)) (now (a .words)) (p .last .1 .0) (refusalSaid x)) (sym (c .refusal-at .ensures))
-    (plan-none (now (a .file)) (now (a .words)) (p .last .1 .0) (r .result) R (c .before .before .before .before .before .before .before .before .before .room .ensures) (c .before .before .before .before .before .before .before .enum-told2 .given .1) (p .ensures .0) (p .ensures .1) (c .before .enum-told3 .given .1))
+    (plan-none (now (a .file)) (now (a .words)) (p .last .1 .0) (r .result) R (c .before .before .before .before .before .before .before .before .before .room .ensures) (omega arith) (c .before .before .before .before .before .before .before .enum-told2 .given .1) (p .ensures .0) (p .ensures .1) (c .before .enum-told3 .given .1))
 
 pub plan-spec : {M : Type 1} → statement M
 plan-spec =

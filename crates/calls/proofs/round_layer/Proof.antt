@@ -1,6 +1,7 @@
 -- `calls::round_layer` meets its contract: each return by what the reader, the test and the layers told.
 use borrow.Author.Needs.{needs}
 use mathlib.Core.Path.{ap}
+use native.Mathlib.Omega.{arith}
 use denote.Ref.{now}
 use lib.ListN.{length}
 use Rattle.expansion.proofs.ReadLaws.{sized-read}
@@ -44,7 +45,8 @@ round-layer-requires : tie.Need-round-layer-requires
 round-layer-requires c κs =
     let r = c .before .before .before .before .before .read-fitting in
     let a = c .before .before .before .before .before .before .before .before .args in
-    (sized-read (now (a .file)) (r .result) (r .ensures .0) (r .ensures .1), layer-passed (a .k) 1 (r .result .horizon) (length (now (a .words))) 64 (c .before .before .layer .ensures) (c .enum-told2 .given .1) .0)
+    let from-one = layer-passed (a .k) 1 (r .result .horizon) (length (now (a .words))) 64 (c .before .before .layer .ensures) (c .enum-told2 .given .1) .0 in
+    (sized-read (now (a .file)) (r .result) (r .ensures .0) (r .ensures .1), omega arith)
 
 vertices-requires : tie.Need-vertices-requires
 vertices-requires c κs =
@@ -59,7 +61,7 @@ returns-3 c =
     let a = c .before .before .before .before .before .before .before .before .before .before .before .before .before .before .before .args in
     let r = c .before .before .before .before .before .before .before .before .before .before .before .before .read-fitting in
     let R = fitting-job (now (a .file)) (r .result) (r .ensures .0) (r .ensures .1) (c .before .before .before .before .before .before .before .before .before .before .enum-told .given .1) in
-    vertices-made (now (a .file)) (now (a .words)) (a .k) (r .result) R (c .before .before .before .before .before .before .before .before .before .layer .ensures) (c .before .before .before .before .before .before .before .enum-told2 .given .1) (c .before .before .before .before .before .before .round-layer .ensures) (c .before .before .vertices .ensures)
+    vertices-made (now (a .file)) (now (a .words)) (a .k) (r .result) R (c .before .before .before .before .before .before .before .before .before .layer .ensures) (c .before .before .before .before .before .before .before .enum-told2 .given .1) (c .before .before .before .before .before .before .round-layer .ensures) (c .before .before .vertices .ensures) (omega arith) (omega arith)
 
 pub round-layer-spec : {M : Type 1} → statement M
 round-layer-spec =

@@ -1,8 +1,10 @@
 -- `calls::searched` meets its contract.
 use borrow.Author.Needs.{needs}
 use mathlib.Core.Path.{ap, sym, _∙_}
+use native.Mathlib.Omega.{arith}
 use Rattle.lending.specs.Answers.{said, refusalSaid}
 use Rattle.calls.specs.Choose.{searched}
+use Rattle.calls.proofs.ToldLaws.{seen, chosen-said}
 use Rattle.calls.proofs.searched.Statement.{statement}
 use Rattle.calls.proofs.searched.Tie as tie
 
@@ -16,7 +18,7 @@ refusal-at-requires : tie.Need-refusal-at-requires
 refusal-at-requires c κs = search needs
 
 returns : tie.Need-returns
-returns c = sym (ap (λ s. said (searched s)) (c .before .chosen .given .1))
+returns c = chosen-said (c .before .chosen .given .1) (seen (λ values is. omega arith)) (omega arith) (omega arith)
 
 returns-2 : tie.Need-returns-2
 returns-2 c = ap refusalSaid (c .refusal-at .ensures) ∙ sym (ap (λ s. said (searched s)) (c .before .enum-told .given .1))

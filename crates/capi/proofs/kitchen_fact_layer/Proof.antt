@@ -1,9 +1,10 @@
 -- `capi::kitchen_fact_layer` meets its contract: each return by what the call answered and left.
 use borrow.Author.Needs.{needs}
-use mathlib.Core.Path.{sym, ap, _∙_}
+use mathlib.Core.Path.{refl, sym, ap, _∙_}
+use native.Mathlib.Omega.{arith}
 use Rattle.calls.specs.Layers.{factsTold}
 use Rattle.capi.specs.Returned.{alone}
-use Rattle.capi.proofs.ReturnedLaws.{value-handed, refusal-handed}
+use Rattle.capi.proofs.ReturnedLaws.{first-word, second-word, value-handed, refusal-handed}
 use Rattle.capi.proofs.kitchen_fact_layer.Statement.{statement}
 use Rattle.capi.proofs.kitchen_fact_layer.Tie as tie
 
@@ -31,7 +32,7 @@ same-length c = search needs
 returns : tie.Need-returns
 returns c =
     let e = c .before .before .before .before .before .before .before .fact-layer .ensures in
-    (value-handed alone (sym (ap (λ l. l .answer) e) ∙ ap factsTold (c .before .before .before .answer .given .1)) (c .answered .ensures .0) (c .answered .ensures .1), ap (λ l. l .buffer) e)
+    (value-handed alone (sym (ap (λ l. l .answer) e) ∙ ap factsTold (c .before .before .before .answer .given .1)) refl (c .answered .ensures .1) (omega (arith, c .answered .ensures .0)) (omega (arith, first-word (c .answered .ensures .1))) (omega (arith, second-word (c .answered .ensures .1))), ap (λ l. l .buffer) e)
 
 same-length-2 : tie.Need-same-length-2
 same-length-2 c = search needs
@@ -39,7 +40,7 @@ same-length-2 c = search needs
 returns-2 : tie.Need-returns-2
 returns-2 c =
     let e = c .before .before .before .before .before .before .before .fact-layer .ensures in
-    (refusal-handed alone (sym (ap (λ l. l .answer) e) ∙ ap factsTold (c .before .before .before .answer2 .given .1)) (c .refused .ensures .0) (c .refused .ensures .1), ap (λ l. l .buffer) e)
+    (refusal-handed alone (sym (ap (λ l. l .answer) e) ∙ ap factsTold (c .before .before .before .answer2 .given .1)) (c .refused .ensures .1) (omega (arith, c .refused .ensures .0)) (omega (arith, first-word (c .refused .ensures .1))) (omega (arith, second-word (c .refused .ensures .1))), ap (λ l. l .buffer) e)
 
 pub kitchen-fact-layer-spec : {M : Type 1} → statement M
 kitchen-fact-layer-spec =

@@ -1,9 +1,10 @@
 -- `capi::kitchen_partition` meets its contract: each return by what the call answered and left.
 use borrow.Author.Needs.{needs}
-use mathlib.Core.Path.{sym, ap, _∙_}
+use mathlib.Core.Path.{refl, sym, ap, _∙_}
+use native.Mathlib.Omega.{arith}
 use Rattle.calls.specs.Partition.{partitionTold}
 use Rattle.capi.specs.Returned.{nothing}
-use Rattle.capi.proofs.ReturnedLaws.{value-handed, refusal-handed}
+use Rattle.capi.proofs.ReturnedLaws.{first-word, second-word, value-handed, refusal-handed}
 use Rattle.capi.proofs.kitchen_partition.Statement.{statement}
 use Rattle.capi.proofs.kitchen_partition.Tie as tie
 
@@ -28,7 +29,7 @@ same-length c = search needs
 returns : tie.Need-returns
 returns c =
     let e = c .before .before .before .before .before .before .partition .ensures in
-    (value-handed nothing (sym (ap (λ l. l .answer) e) ∙ ap partitionTold (c .before .before .enum-told .given .1)) (c .answered .ensures .0) (c .answered .ensures .1), ap (λ l. l .buffer) e)
+    (value-handed nothing (sym (ap (λ l. l .answer) e) ∙ ap partitionTold (c .before .before .enum-told .given .1)) refl (c .answered .ensures .1) (omega (arith, c .answered .ensures .0)) (omega (arith, first-word (c .answered .ensures .1))) (omega (arith, second-word (c .answered .ensures .1))), ap (λ l. l .buffer) e)
 
 same-length-2 : tie.Need-same-length-2
 same-length-2 c = search needs
@@ -36,7 +37,7 @@ same-length-2 c = search needs
 returns-2 : tie.Need-returns-2
 returns-2 c =
     let e = c .before .before .before .before .before .before .before .partition .ensures in
-    (refusal-handed nothing (sym (ap (λ l. l .answer) e) ∙ ap partitionTold (c .before .before .before .answer .given .1)) (c .refused .ensures .0) (c .refused .ensures .1), ap (λ l. l .buffer) e)
+    (refusal-handed nothing (sym (ap (λ l. l .answer) e) ∙ ap partitionTold (c .before .before .before .answer .given .1)) (c .refused .ensures .1) (omega (arith, c .refused .ensures .0)) (omega (arith, first-word (c .refused .ensures .1))) (omega (arith, second-word (c .refused .ensures .1))), ap (λ l. l .buffer) e)
 
 pub kitchen-partition-spec : {M : Type 1} → statement M
 kitchen-partition-spec =
