@@ -6,12 +6,12 @@ the last landing, a little less where a machine may see fewer.
 
 # What stands in the repository (`counts`).
 THERE = {
-    "crates": 36,
+    "crates": 38,
     "programs": 11,
-    "must-fail edits": 124,
-    "crates with must-fail edits": 23,
-    "rows of the proved table": 21,
-    "theorems of the demands": 31,
+    "must-fail edits": 167,
+    "crates with must-fail edits": 24,
+    "rows of the proved table": 70,
+    "theorems of the demands": 42,
     "functions of the header": 10,
     "scripts of the second program": 17,
     "sample jobs": 5,
@@ -26,7 +26,7 @@ CHECKS = {
     "layout": 400,
     "nothing_foreign": THERE["crates"],
     "assumptions_as_stated": 1 + THERE["programs"],
-    "trace": 753,
+    "trace": 840,
     "promises": THERE["theorems of the demands"],
     "documents": 92,
     "second_program": 971,

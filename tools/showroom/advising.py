@@ -1,6 +1,6 @@
 """Why, why not, what else: by asking kitchen about jobs that differ from the one in question.
 
-What is concluded of a choice are theorems (crates/choice/proofs/Advice.antt): with the wishes of some articles emptied
+What is concluded of a choice are theorems (crates/advice/proofs/Advice.antt): with the wishes of some articles emptied
 there is a selection exactly if there is one without these articles; an article is in some selection exactly if the order
 without its wishes has one without the article itself and those that it clashes with; it is in every one exactly if there is
 none without it; and what has no selection for a part of the order has none for the order. Of a fitting nothing is

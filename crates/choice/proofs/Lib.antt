@@ -1,4 +1,4 @@
--- The theorems on the choice and on advice; and the laws that the search rests on.
+-- The theorems on the choice; and the laws that the search rests on.
 pub mod ChoiceLaws
 pub mod CoverLaws
 pub mod FindLaws
@@ -6,4 +6,3 @@ pub mod FloorLaws
 pub mod AmongLaws
 pub mod OfferLaws
 pub mod Theorems
-pub mod Advice

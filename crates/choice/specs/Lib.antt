@@ -1,4 +1,3 @@
--- The choice; what the parts of the search promise each other; and what advice is said with.
+-- The choice; and what the parts of the search promise each other.
 pub mod Choice
 pub mod Search
-pub mod Advice

@@ -20,12 +20,12 @@ use Rattle.sets.proofs.Made.{set-bit}
 use Rattle.jobfile.specs.Job.{Record, Job, column, size, order, wishes}
 use Rattle.network.specs.Network.{Network, networkOf, clash, Selection}
 use Rattle.network.proofs.NetworkLaws.{clash-turned}
 use Rattle.choice.specs.Choice.{Cover, selection}
 use Rattle.choice.specs.Search.{Beside}
-use Rattle.choice.specs.Advice.{Apart, emptied, barred, smallestOf, withFirst, wishless, emptiedFrom, emptiedJob, ordered, leftBy}
+use Rattle.advice.specs.Advice.{Apart, emptied, barred, smallestOf, withFirst, wishless, emptiedFrom, emptiedJob, ordered, leftBy}
 use Rattle.choice.proofs.ChoiceLaws.{cover-selection, selection-cover, selection-right}
 use Rattle.choice.proofs.CoverLaws.{covered-by, by-covered, widened, taken, given-up}
 use Rattle.choice.proofs.Theorems.{none-exactly, exactly-none, the-smallest}
 
 -- an answer is none exactly if there is nothing, where it is a set exactly if there is something
 none-by : {P Q : ℕ → Type 0} (a : Option ℕ) → ((y : ℕ) × (a ≡ some y)) ↔ ((x : ℕ) × P x × Q x) → (a ≡ none) ↔ ((x : ℕ) → P x → Q x → ⊥)

@@ -1,0 +1,2 @@
+-- The theorems that advice on a job rests on.
+pub mod Advice

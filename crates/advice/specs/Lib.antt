@@ -1,0 +1,2 @@
+-- What advice on a job is said with.
+pub mod Advice

@@ -1,0 +1,1 @@
+// What advice on a job rests on: definitions and theorems, no code.
