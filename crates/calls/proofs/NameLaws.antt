@@ -8,6 +8,7 @@ use native.Mathlib.Omega.{arith}
 use lib.Dec.{eqb}
 use lib.ListN.{length, getD, take, drop}
 use borrow.Author.Tests.{eqb-true}
+use Rattle.sets.specs.Ranges.{num}
 use Rattle.reading.specs.declared.Reason.the-variants.{NameNotFound}
 use Rattle.reading.specs.declared.Refusal.{Refusal}
 use Rattle.reading.specs.declared.Spot.{Spot}
@@ -30,11 +31,11 @@ use Rattle.lending.specs.Answers.{Answer, value, onJob, found, Said, answered, 
 use Rattle.calls.specs.Find.{findIn, findOf}
 use Rattle.calls.specs.Compare.{compareOf}
 use Rattle.calls.proofs.CallLaws.{Taken, choice-taken, fitting-taken, choice-down, choice-down-as, fitting-down, job-down, faultIn, placeIn, takenIn}
-use Rattle.calls.proofs.ToldLaws.{values, one, tested, test-said}
+use Rattle.calls.proofs.ToldLaws.{values, tested, test-said}
 
 -- ---- naming
 
--- the spot of entry n, where that is the one asked for
+-- the spot of record n, where that is the one asked for
 pub spot-asked : (g : Got (Job Spot)) {s : Spot} {n asked : ℕ} → s ≡ spotIn g n → n ≡ asked → s ≡ spotIn g asked
 spot-asked g e same = e ∙ ap (spotIn g) same
 
@@ -137,5 +138,5 @@ module _ (f s : List ℕ) where
 
     -- r is what the test of both said, and t what is told of it
     pub compare-both : (b : ReadChoice) {r : Bool} (is : Bool) {t : Said Bool} → b ≡ choiceOf (read spots choices s) → ChoiceBounds s b → b .verdict ≡ Verdict.Accepted → r ≡ byArrays a b → r ≡ is
-        → values t ≡ 1 → tested t ≡ one is → t ≡ said (compareOf f s)
+        → values t ≡ 1 → tested t ≡ num is → t ≡ said (compareOf f s)
     compare-both b is {t} eb bb vb e k v told = test-said t is v told ∙ both-read b eb bb vb e k

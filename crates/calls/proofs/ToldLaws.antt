@@ -3,6 +3,8 @@ use mathlib.Core.Path.{_≡_, refl, ap, ap₂, sym, _∙_}
 use mathlib.Core.Bool.{Bool, true, false}
 use Prim.Native.Nat.{ℕ}
 use native.Mathlib.Omega.{arith}
+use Rattle.sets.specs.Ranges.{num}
+use Rattle.sets.proofs.Ranges.{true-num, false-num}
 use Rattle.reading.specs.declared.Reason.{Reason}
 use Rattle.lending.specs.Answers.{found, Said, refusedBy, answered, said}
 use Rattle.matching.specs.declared.names.Named.{Named}
@@ -22,13 +24,9 @@ values (refusedBy number place) = 0
 values (answered x) = 1
 
 -- a test that is said, as 1 or 0
-abbrev pub one : Bool → ℕ
-one true = 1
-one false = 0
-
 abbrev pub tested : Said Bool → ℕ
 tested (refusedBy reason place) = 0
-tested (answered b) = one b
+tested (answered b) = num b
 
 -- the number that is said, a selection, and what is set aside
 abbrev pub number : Said ℕ → ℕ
@@ -51,15 +49,13 @@ choice-is : (t : Said Chosen) {x aside : ℕ} → values t ≡ 1 → selected t 
 choice-is (refusedBy reason place) v e h = absurd (omega arith)
 choice-is (answered c) v e h = ap₂ (λ (x aside : ℕ). answered (record { selection = x; aside = aside })) e h
 
-one-same : (a b : Bool) → one a ≡ one b → a ≡ b
-one-same true true e = refl
-one-same false false e = refl
-one-same true false e = absurd (omega arith)
-one-same false true e = absurd (omega arith)
+num-same : (a b : Bool) → num a ≡ num b → a ≡ b
+num-same true b e = sym (true-num b (sym e))
+num-same false b e = sym (false-num b (sym e))
 
-pub test-said : (t : Said Bool) (b : Bool) → values t ≡ 1 → tested t ≡ one b → t ≡ answered b
+pub test-said : (t : Said Bool) (b : Bool) → values t ≡ 1 → tested t ≡ num b → t ≡ answered b
 test-said (refusedBy reason place) b v e = absurd (omega arith)
-test-said (answered a) b v e = ap (λ (x : Bool). answered x) (one-same a b e)
+test-said (answered a) b v e = ap (λ (x : Bool). answered x) (num-same a b e)
 
 -- what was found, and what the search chose
 pub found-said : (reason : Reason) {t : Said ℕ} {named : Named} {i : ℕ} → named ≡ Named.At i → values t ≡ 1 → number t ≡ i → t ≡ said (found (placeOf named) reason)

@@ -19,4 +19,4 @@ use Rattle.examples.specs.Table.{Hold, rows}
 
 pub table : Hold rows
 unfolding everyTo anyTo sumTo maxTo listTo bit without part meets everyPair setOf unionTo gathered countIn count firstFrom eachAt upFrom kindAt valueAt numberAt countAt mapAt setAt fieldAt lengthAt nameAt choice fitting kinds layoutIn fieldsAt recordAt bodyAt layoutAt read readJob clash together misplaced firstMisplaced suits opened joins groupsTo outside badGoal firstBad share contribution others supported pass passes setAside isCover smallest disturb after isRound leads leadsIn fewest mutexes opposed stands rivals standing roundOver givers excluded givenBy factsOver factLayer sameList digits members roundTexts
-table = (refl, (refl, (refl, (refl, (refl, (refl, (refl, (refl, (refl, (refl, (refl, (refl, (refl, (refl, (refl, (refl, (refl, (refl, (refl, (refl, (refl, (refl, (refl, (refl, (refl, (refl, (refl, (refl, (refl, (refl, (refl, (refl, (refl, (refl, (refl, (refl, (refl, (refl, (refl, (refl, (refl, (refl, (refl, (refl, (refl, (refl, (refl, (refl, (refl, (refl, (refl, (refl, (refl, (refl, (refl, (refl, (refl, (refl, (refl, (refl, (refl, (refl, (refl, (refl, (refl, (refl, (refl, (refl, (refl, (refl, tt))))))))))))))))))))))))))))))))))))))))))))))))))))))))))))))))))))))
+table = (refl, (refl, (refl, (refl, (refl, (refl, (refl, (refl, (refl, (refl, (refl, (refl, (refl, (refl, (refl, (refl, (refl, (refl, (refl, (refl, (refl, (refl, (refl, (refl, (refl, (refl, (refl, (refl, (refl, (refl, (refl, (refl, (refl, (refl, (refl, (refl, (refl, (refl, (refl, (refl, (refl, (refl, (refl, (refl, (refl, (refl, (refl, (refl, (refl, (refl, (refl, (refl, (refl, (refl, (refl, (refl, (refl, (refl, (refl, (refl, (refl, (refl, (refl, (refl, (refl, (refl, (refl, (refl, (refl, (refl, (refl, tt)))))))))))))))))))))))))))))))))))))))))))))))))))))))))))))))))))))))

@@ -153,6 +153,7 @@ rowsNumbers =
     ∷ leaves (roundLayerOf fileG 0 (nines 1)) (refusedBy 9 0) (nines 1)
     ∷ leaves (partitionOf fileA (nines 2)) (refusedBy 10 0) (9 ∷ 9 ∷ [])
     ∷ says (planOf fileF (nines 2)) (refusedBy 10 0)
+    ∷ says (passOf fileB (3 ∷ []) 7 7) (refusedBy 10 0)
     ∷ says (passOf fileA (0 ∷ 0 ∷ 3 ∷ []) 8 0) (refusedBy 11 2)
     ∷ says (passOf fileA (0 ∷ 1 ∷ 1 ∷ []) 7 3) (refusedBy 11 2)
     ∷ says (passOf fileA groups 8 0) (refusedBy 12 0)
