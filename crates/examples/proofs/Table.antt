@@ -2,6 +2,7 @@
 use mathlib.Core.Path.{refl}
 use Rattle.sets.specs.Ranges.{everyTo, anyTo, sumTo, maxTo, listTo}
 use Rattle.sets.specs.Sets.{bit, without, part, meets, everyPair, setOf, unionTo, gathered, countIn, count}
+use Rattle.sets.specs.Articles.{taking, givingUp}
 use Rattle.sets.specs.First.{firstFrom}
 use Rattle.reading.specs.Got.{eachAt, upFrom}
 use Rattle.reading.specs.Items.{kindAt, valueAt, numberAt, countAt, mapAt, setAt, fieldAt, lengthAt, nameAt}
@@ -18,5 +19,5 @@ use Rattle.graph.specs.Layers.{mutexes, opposed, stands, rivals, standing, roun
 use Rattle.examples.specs.Table.{Hold, rows}
 
 pub table : Hold rows
-unfolding everyTo anyTo sumTo maxTo listTo bit without part meets everyPair setOf unionTo gathered countIn count firstFrom eachAt upFrom kindAt valueAt numberAt countAt mapAt setAt fieldAt lengthAt nameAt choice fitting kinds layoutIn fieldsAt recordAt bodyAt layoutAt read readJob clash together misplaced firstMisplaced suits opened joins groupsTo outside badGoal firstBad share contribution others supported pass passes setAside isCover smallest disturb after isRound leads leadsIn fewest mutexes opposed stands rivals standing roundOver givers excluded givenBy factsOver factLayer sameList digits members roundTexts
-table = (refl, (refl, (refl, (refl, (refl, (refl, (refl, (refl, (refl, (refl, (refl, (refl, (refl, (refl, (refl, (refl, (refl, (refl, (refl, (refl, (refl, (refl, (refl, (refl, (refl, (refl, (refl, (refl, (refl, (refl, (refl, (refl, (refl, (refl, (refl, (refl, (refl, (refl, (refl, (refl, (refl, (refl, (refl, (refl, (refl, (refl, (refl, (refl, (refl, (refl, (refl, (refl, (refl, (refl, (refl, (refl, (refl, (refl, (refl, (refl, (refl, (refl, (refl, (refl, (refl, (refl, (refl, (refl, (refl, (refl, (refl, tt)))))))))))))))))))))))))))))))))))))))))))))))))))))))))))))))))))))))
+unfolding everyTo anyTo sumTo maxTo listTo bit without part meets everyPair setOf unionTo gathered countIn count taking givingUp firstFrom eachAt upFrom kindAt valueAt numberAt countAt mapAt setAt fieldAt lengthAt nameAt choice fitting kinds layoutIn fieldsAt recordAt bodyAt layoutAt read readJob clash together misplaced firstMisplaced suits opened joins groupsTo outside badGoal firstBad share contribution others supported pass passes setAside isCover smallest disturb after isRound leads leadsIn fewest mutexes opposed stands rivals standing roundOver givers excluded givenBy factsOver factLayer sameList digits members roundTexts
+table = (refl, (refl, (refl, (refl, (refl, (refl, (refl, (refl, (refl, (refl, (refl, (refl, (refl, (refl, (refl, (refl, (refl, (refl, (refl, (refl, (refl, (refl, (refl, (refl, (refl, (refl, (refl, (refl, (refl, (refl, (refl, (refl, (refl, (refl, (refl, (refl, (refl, (refl, (refl, (refl, (refl, (refl, (refl, (refl, (refl, (refl, (refl, (refl, (refl, (refl, (refl, (refl, (refl, (refl, (refl, (refl, (refl, (refl, (refl, (refl, (refl, (refl, (refl, (refl, (refl, (refl, (refl, (refl, (refl, (refl, (refl, (refl, (refl, (refl, (refl, (refl, (refl, (refl, (refl, (refl, (refl, tt)))))))))))))))))))))))))))))))))))))))))))))))))))))))))))))))))))))))))))))))))

@@ -5,7 +5,8 @@ use mathlib.Core.Bool.{Bool, true, false}
 use mathlib.Core.List.{List, [], _∷_, _++_}
 use Prim.Native.Nat.{ℕ, _+_, _*_, _/_, _%_, _^_}
 use lib.ListN.{length, replicate, set}
-use Rattle.sets.specs.Sets.{setOf}
+use Rattle.sets.specs.Sets.{member, count, setOf}
+use Rattle.sets.specs.Articles.{taking, givingUp}
 use Rattle.reading.specs.Reasons.{answers}
 use Rattle.reading.specs.Items.{spots}
 use Rattle.jobfile.specs.Job.{Job, size}
@@ -192,6 +193,22 @@ rowsText =
     ∷ is (textOf (outcomeOf fileShort room) room) (114 ∷ 101 ∷ 102 ∷ 117 ∷ 115 ∷ 101 ∷ 100 ∷ 32 ∷ 50 ∷ 32 ∷ 97 ∷ 116 ∷ 32 ∷ 52 ∷ 53 ∷ 10 ∷ [])
     ∷ []
 
+-- a set of articles: it takes one, the same again, one of number 64; it gives one up, one that it lacks, one of number 64; a member, a number that is
+-- none, number 64; and how many it has, with article 63 among them
+abbrev rowsSets : List Row
+rowsSets =
+    is (taking 64 0 0) 1
+    ∷ is (taking 64 1 0) 1
+    ∷ is (taking 64 0 64) 0
+    ∷ is (givingUp 64 3 0) 2
+    ∷ is (givingUp 64 0 0) 0
+    ∷ is (givingUp 64 1 64) 1
+    ∷ is (member 1 0) true
+    ∷ is (member 1 1) false
+    ∷ is (member 0 64) false
+    ∷ is (count (1 + 2 ^ 63)) 2
+    ∷ []
+
 -- the numbers that are answers to accepted input
 abbrev rowsAnswers : List Row
 rowsAnswers =
@@ -202,4 +219,4 @@ rowsAnswers =
     ∷ []
 
 abbrev pub rows : List Row
-rows = rowsA ++ (rowsB ++ (rowsF ++ (rowsNames ++ (rowsNumbers ++ (rowsC ++ (rowsText ++ rowsAnswers))))))
+rows = rowsA ++ (rowsB ++ (rowsF ++ (rowsNames ++ (rowsNumbers ++ (rowsC ++ (rowsText ++ (rowsSets ++ rowsAnswers)))))))
