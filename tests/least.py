@@ -11,7 +11,7 @@ THERE = {
     "must-fail edits": 174,
     "crates with must-fail edits": 24,
     "rows of the proved table": 81,
-    "theorems of the demands": 42,
+    "theorems of the demands": 45,
     "functions of the header": 10,
     "scripts of the second program": 17,
     "sample jobs": 5,

@@ -19,7 +19,7 @@ use Rattle.sets.specs.First.{firstFrom, LeastFrom, Smallest}
 use Rattle.sets.proofs.Ranges.{both-true, true-both, either-true, any-at, at-any}
 use Rattle.sets.proofs.Bits.{bit-shift, in-without, top-in, yes-part, part-in}
 use Rattle.sets.proofs.Lowest.{some-member}
-use Rattle.sets.proofs.First.{first-smallest, smallest-first}
+use Rattle.sets.proofs.First.{first-none, none-first, first-smallest, smallest-first}
 use Rattle.reading.specs.declared.Reason.{Reason}
 use Rattle.reading.specs.declared.Reason.the-variants.{OutOfRange, ShortBuffer, FalsePartition, LiveOutsideFile, BadGoal, NoSelection, NoPlan}
 use Rattle.reading.specs.Reasons.{numberOf, answers}
@@ -364,6 +364,10 @@ pub found-some : {A : Type 0} (o : Option A) (r : Reason) (x : A) → Exactly (s
 found-some none r x = (λ e. absurd (no-refusal (sym e)), λ e. absurd (Option·none-ne-some x e))
 found-some (some y) r x = (λ e. ap some (one-value e), λ e. ap answered (Option·some-injective y x e))
 
+pub found-nothing : {A : Type 0} (o : Option A) (r : Reason) → Exactly (said (found o r) ≡ refusedBy (numberOf r) 0) (o ≡ none)
+found-nothing none r = (λ e. refl, λ e. refl)
+found-nothing (some x) r = (λ e. absurd (no-refusal e), λ e. absurd (Option·none-ne-some x (sym e)))
+
 -- the lowest number with a name
 pub lowest-exactly : (name : List ℕ) (job : Job (List ℕ)) (i : ℕ)
     → Exactly (lowestNamed name (size job) (λ i. getD (namesOf (job .records)) i []) ≡ some i) (Has job name i × ((j : ℕ) → j < i → Has job name j → ⊥))
@@ -384,6 +388,27 @@ lowest-exactly (b ∷ bs) job i = (to, back)
 
     back : Has job (b ∷ bs) i × ((j : ℕ) → j < i → Has job (b ∷ bs) j → ⊥) → firstFrom (λ j. sameName (names j) (b ∷ bs)) (size job) 0 ≡ some i
     back ((s, l, p), least) = first .1 (l, p, λ j k q. least j k (some-byte, omega arith, q))
+
+-- nobody has the name
+pub nobody-exactly : (name : List ℕ) (job : Job (List ℕ)) → Exactly (lowestNamed name (size job) (λ i. getD (namesOf (job .records)) i []) ≡ none) ((i : ℕ) → Has job name i → ⊥)
+nobody-exactly [] job = (λ e i w. w .0 refl, λ h. refl)
+nobody-exactly (b ∷ bs) job = (to, back)
+  where
+    named : ℕ → Bool
+    named i = sameName (getD (namesOf (job .records)) i []) (b ∷ bs)
+
+    to : firstFrom named (size job) 0 ≡ none → (i : ℕ) → Has job (b ∷ bs) i → ⊥
+    to e i (s, l, p) = true≢false (agree (getD (namesOf (job .records)) i []) (b ∷ bs) p ∙ first-none named (size job) 0 e i (omega arith) (omega arith))
+
+    back : ((i : ℕ) → Has job (b ∷ bs) i → ⊥) → firstFrom named (size job) 0 ≡ none
+    back h = none-first named (size job) 0 (λ i l u. go i (omega arith) (named i) refl)
+      where
+        some-byte : (b ∷ bs) ≡ [] → ⊥
+        some-byte e = let z : _≡_ {A = ℕ} 0 1 = cc in omega arith
+
+        go : (i : ℕ) → i < size job → (t : Bool) → named i ≡ t → named i ≡ false
+        go i l true e = absurd (h i (some-byte, l, list-same (getD (namesOf (job .records)) i []) (b ∷ bs) e))
+        go i l false e = e
 
 -- ---- comparing
 

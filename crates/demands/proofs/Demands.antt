@@ -8,9 +8,10 @@ use Prim.Native.Nat.{ℕ, _≤_, _<_}
 use native.Mathlib.Omega.{arith}
 use lib.ListN.{length, getD, take, drop}
 use Rattle.reading.specs.declared.Reason.{Reason}
-use Rattle.reading.specs.declared.Reason.the-variants.{NoPlan, NameNotFound}
+use Rattle.reading.specs.declared.Reason.the-variants.{WrongKind, EndsEarly, OverLimit, ForbiddenBit, EmptyField, AbsentMember, LongName, TrailingBytes, OutOfRange, ShortBuffer, FalsePartition, LiveOutsideFile, BadGoal, NoSelection, NoPlan, NameNotFound}
 use Rattle.reading.specs.Reasons.{numberOf}
 use Rattle.reading.specs.Got.{Got, got, refused}
+use Rattle.reading.proofs.Reasons.{number-tells}
 use Rattle.jobfile.specs.Job.{Job, namesOf, size, order, horizon}
 use Rattle.jobfile.specs.Read.{read, readJob, choices, fittings, either}
 use Rattle.jobfile.specs.Write.{write}
@@ -42,9 +43,16 @@ use Rattle.calls.specs.Find.{findIn, findOf}
 use Rattle.calls.specs.Compare.{compareOf}
 use Rattle.demands.specs.Demands.{Exactly, Refuses, Says, Off, Wrong, absentLayer, shortBuffer, falsePartition, absentArticle, wrongGoal, wrongGoals, Has, Alike, ChoiceKept, PlanKept}
 use Rattle.demands.proofs.ReasonLaws.{file-reason}
-use Rattle.demands.proofs.DemandLaws.{exactly-then, tests-end, accepted-exactly, both-pass, room-checks, layer-checks, groups-checks, pass-checks, goals-checks, file-exactly, file-tests, file-taken, file-only, left-exactly, left-taken, left-kept, left-value, name-past, chosen-taken, chosen-none, choice-is, choice-kept, found-taken, found-none, found-some, lowest-exactly, alike-exactly, plan-is, plan-kept}
+use Rattle.demands.proofs.DemandLaws.{exactly-then, tests-end, accepted-exactly, both-pass, room-checks, layer-checks, groups-checks, pass-checks, goals-checks, file-exactly, file-tests, file-taken, file-only, left-exactly, left-taken, left-kept, left-value, name-past, chosen-taken, chosen-none, choice-is, choice-kept, found-taken, found-none, found-some, found-nothing, lowest-exactly, nobody-exactly, alike-exactly, plan-is, plan-kept}
 
 -- ---- demand 1
+
+-- "each by its number": the numbers of the rules, and no two reasons have one
+pub demand-1-numbers : (numberOf WrongKind ≡ 1) × (numberOf EndsEarly ≡ 2) × (numberOf OverLimit ≡ 3) × (numberOf ForbiddenBit ≡ 4) × (numberOf EmptyField ≡ 5) × (numberOf AbsentMember ≡ 6) × (numberOf LongName ≡ 7) × (numberOf TrailingBytes ≡ 8) × (numberOf OutOfRange ≡ 9) × (numberOf ShortBuffer ≡ 10) × (numberOf FalsePartition ≡ 11) × (numberOf LiveOutsideFile ≡ 12) × (numberOf BadGoal ≡ 13) × (numberOf NoSelection ≡ 14) × (numberOf NoPlan ≡ 15) × (numberOf NameNotFound ≡ 16)
+demand-1-numbers = (refl, refl, refl, refl, refl, refl, refl, refl, refl, refl, refl, refl, refl, refl, refl, refl)
+
+pub demand-1-one-number : (r s : Reason) → numberOf r ≡ numberOf s → r ≡ s
+demand-1-one-number r s e = number-tells r s e
 
 -- "Refused are files off the layout": those that are not the writing of a valid job of a kind that the call takes
 pub demand-1-files : (takes : ℕ → Bool) (file : List ℕ) → Bytes file
@@ -176,12 +184,19 @@ demand-1-compare-else first second = accepted-exactly (said (compareOf first sec
 pub demand-1-find-result : (file name : List ℕ) → accepted (said (findOf file name)) ≡ true → (job : Job (List ℕ)) × (end : ℕ) × (readJob either file ≡ got job end) × (said (findOf file name) ≡ said (findIn job name))
 demand-1-find-result file name t = let (job, end, e, i, s) = file-taken either file (λ job. findIn job name) t in (job, end, e, ap said i)
 
--- the lowest number with a name, and 16 exactly where there is none
+-- the lowest number with a name
 pub demand-1-find-lowest : (file name : List ℕ) {job : Job (List ℕ)} {end : ℕ} → readJob either file ≡ got job end → (i : ℕ) → Exactly (said (findOf file name) ≡ answered i) (Has job name i × ((j : ℕ) → j < i → Has job name j → ⊥))
 demand-1-find-lowest file name {job} e i =
     let is : said (findOf file name) ≡ said (findIn job name) = ap (λ g. said (onJob g (λ job. findIn job name))) e in
     let some = found-some (lowestNamed name (size job) (λ i. getD (namesOf (job .records)) i [])) NameNotFound i in
     exactly-then (λ r. some .0 (sym is ∙ r), λ s. is ∙ some .1 s) (lowest-exactly name job i)
+
+-- and 16 exactly where nobody has it
+pub demand-1-find-none : (file name : List ℕ) {job : Job (List ℕ)} {end : ℕ} → readJob either file ≡ got job end → Exactly (said (findOf file name) ≡ refusedBy 16 0) ((i : ℕ) → Has job name i → ⊥)
+demand-1-find-none file name {job} e =
+    let is : said (findOf file name) ≡ said (findIn job name) = ap (λ g. said (onJob g (λ job. findIn job name))) e in
+    let nothing = found-nothing (lowestNamed name (size job) (λ i. getD (namesOf (job .records)) i [])) NameNotFound in
+    exactly-then (λ r. nothing .0 (sym is ∙ r), λ s. is ∙ nothing .1 s) (nobody-exactly name job)
 
 pub demand-1-alike : (a b : Job (List ℕ)) → Exactly (alike a b ≡ true) (Alike a b)
 demand-1-alike a b = alike-exactly a b
