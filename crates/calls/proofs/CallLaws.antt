@@ -21,12 +21,12 @@ use Rattle.jobfile.specs.Answers.{choiceOf, Few, ChoiceBounds, FittingBounds}
 use Rattle.jobfile.specs.Read.{read, readJob, choices, fittings}
 use Rattle.jobfile.proofs.NamingLaws.{mapGot, jobBy, read-same}
 use Rattle.network.specs.Network.{networkOf}
-use Rattle.graph.specs.Rounds.{fittingOf}
-use Rattle.layering.specs.Drawn.{fittingIn}
+use Rattle.planning.specs.Rounds.{fittingOf}
+use Rattle.layers.specs.Drawn.{fittingIn}
 use Rattle.expansion.proofs.ReadLaws.{fitting-read}
-use Rattle.lending.specs.Answers.{Answer, refusal, onJob}
-use Rattle.lending.specs.Tests.{networkIn}
-use Rattle.lending.proofs.TestLaws.{network-same}
+use Rattle.arguments.specs.Answers.{Answer, refusal, onJob}
+use Rattle.arguments.specs.Tests.{networkIn}
+use Rattle.arguments.proofs.TestLaws.{network-same}
 
 -- ---- what a verdict tells of a reading
 

@@ -19,9 +19,9 @@ use Rattle.network.proofs.GoalLaws.{goals-within}
 use Rattle.network.proofs.ListedLaws.{groups-listed, pass-listed}
 use Rattle.choice.specs.declared.Choice.{Choice}
 use Rattle.choice.specs.Choice.{selection, chosenBy, chosen}
-use Rattle.lending.specs.Answers.{Answer, refusal, value, onJob, behind, Said, answered, said, refusalSaid, Left, leaving}
-use Rattle.lending.specs.Tests.{roomTest, groupsTest, passTest, goalsTest, verdictOf, networkIn}
-use Rattle.lending.proofs.TestLaws.{stopped, through, groups-passed, goals-passed}
+use Rattle.arguments.specs.Answers.{Answer, refusal, value, onJob, behind, Said, answered, said, refusalSaid, Left, leaving}
+use Rattle.arguments.specs.Tests.{roomTest, groupsTest, passTest, goalsTest, verdictOf, networkIn}
+use Rattle.arguments.proofs.TestLaws.{stopped, through, groups-passed, goals-passed}
 use Rattle.calls.specs.Partition.{partitionIn, partitionOf}
 use Rattle.calls.specs.Pass.{passIn, passOf}
 use Rattle.calls.specs.Choose.{Chosen, chosenOr, chooseIn, chooseOf, searched}

@@ -22,19 +22,19 @@ use Rattle.jobfile.specs.Answers as Answers
 use Rattle.jobfile.specs.Answers.{padded}
 use Rattle.jobfile.specs.Read.{read, readJob, fittings}
 use Rattle.jobfile.proofs.ReadLaws.{padded-at}
-use Rattle.graph.specs.Rounds.{Fitting, fewest}
-use Rattle.graph.specs.Layers.{Layer, vertices, factsOver, factLayer, roundOver, roundLayer}
-use Rattle.graph.specs.Back.{Sized}
-use Rattle.graph.proofs.WordLaws.{words-below}
-use Rattle.graph.proofs.LayerLaws.{facts-below}
-use Rattle.layering.specs.Drawn.{layer, roomy, fittingIn}
-use Rattle.layering.proofs.LayerCode.{facts-length, rounds-length}
+use Rattle.planning.specs.Rounds.{Fitting, fewest}
+use Rattle.planning.specs.Layers.{Layer, vertices, factsOver, factLayer, roundOver, roundLayer}
+use Rattle.planning.specs.Back.{Sized}
+use Rattle.planning.proofs.WordLaws.{words-below}
+use Rattle.planning.proofs.LayerLaws.{facts-below}
+use Rattle.layers.specs.Drawn.{layer, roomy, fittingIn}
+use Rattle.layers.proofs.LayerCode.{facts-length, rounds-length}
 use Rattle.planner.specs.declared.Planned.{Planned}
 use Rattle.planner.specs.declared.Planned.the-variants as Planned
 use Rattle.planner.specs.Planner.{plannedBy, Words}
-use Rattle.lending.specs.Answers.{Answer, refusal, value, onJob, behind, found, Said, answered, said, refusalSaid, Left, leaving}
-use Rattle.lending.specs.Tests.{roomTest, layerTest, verdictOf}
-use Rattle.lending.proofs.TestLaws.{stopped, through}
+use Rattle.arguments.specs.Answers.{Answer, refusal, value, onJob, behind, found, Said, answered, said, refusalSaid, Left, leaving}
+use Rattle.arguments.specs.Tests.{roomTest, layerTest, verdictOf}
+use Rattle.arguments.proofs.TestLaws.{stopped, through}
 use Rattle.calls.specs.Layers.{factLayerIn, factLayerOf, roundLayerIn, roundLayerOf}
 use Rattle.calls.specs.Plan.{planIn, planOf, WordsIn, Buffer}
 use Rattle.calls.proofs.ToldLaws.{values, number, number-said}

@@ -24,10 +24,10 @@ use Rattle.jobfile.specs.Read.{read, readJob, choices, fittings, either}
 use Rattle.jobfile.proofs.NamingLaws.{mapGot, bytesAt, recordBy, jobBy, names-same, read-same}
 use Rattle.jobfile.proofs.ReadLaws.{either-choice, either-fitting, choice-spot, fitting-spot}
 use Rattle.expansion.proofs.ReadLaws.{column-by, column-length}
-use Rattle.matching.specs.Same.{sameList, alike}
-use Rattle.matching.specs.Names.{lowestNamed}
-use Rattle.matching.proofs.SameLaws.{padded-same, search-cong}
-use Rattle.lending.specs.Answers.{Answer, value, onJob, found, Said, answered, said, refusalSaid}
+use Rattle.names.specs.Same.{sameList, alike}
+use Rattle.names.specs.Names.{lowestNamed}
+use Rattle.names.proofs.SameLaws.{padded-same, search-cong}
+use Rattle.arguments.specs.Answers.{Answer, value, onJob, found, Said, answered, said, refusalSaid}
 use Rattle.calls.specs.Find.{findIn, findOf}
 use Rattle.calls.specs.Compare.{compareOf}
 use Rattle.calls.proofs.CallLaws.{Taken, choice-taken, fitting-taken, choice-down, choice-down-as, fitting-down, job-down, faultIn, placeIn, takenIn}

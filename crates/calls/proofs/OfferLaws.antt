@@ -25,8 +25,8 @@ use Rattle.network.specs.Filter.{setAside, badGoal, firstBad}
 use Rattle.network.proofs.GroupLaws.{groups-length, groups-right, right-lent}
 use Rattle.choice.specs.declared.Choice.{Choice}
 use Rattle.choice.specs.Choice.{selection, soleGoal, offered}
-use Rattle.lending.specs.Answers.{Answer, unless, unlessAt, behind, passed, said, refusalSaid}
-use Rattle.lending.specs.Tests.{groupsTest, goalsTest, networkIn}
+use Rattle.arguments.specs.Answers.{Answer, unless, unlessAt, behind, passed, said, refusalSaid}
+use Rattle.arguments.specs.Tests.{groupsTest, goalsTest, networkIn}
 use Rattle.calls.specs.Choose.{Chosen, chosenOr, searched}
 use Rattle.calls.specs.Offer.{offerIn, offerOf}
 use Rattle.calls.proofs.CallLaws.{choice-down, job-down, on-job, ChoiceRead}

@@ -6,10 +6,10 @@ use native.Mathlib.Omega.{arith}
 use Rattle.sets.specs.Ranges.{num}
 use Rattle.sets.proofs.Ranges.{true-num, false-num}
 use Rattle.reading.specs.declared.Reason.{Reason}
-use Rattle.lending.specs.Answers.{found, Said, refusedBy, answered, said}
-use Rattle.matching.specs.declared.names.Named.{Named}
-use Rattle.matching.specs.declared.names.Named.the-variants as Named
-use Rattle.matching.specs.Names.{placeOf}
+use Rattle.arguments.specs.Answers.{found, Said, refusedBy, answered, said}
+use Rattle.names.specs.declared.names.Named.{Named}
+use Rattle.names.specs.declared.names.Named.the-variants as Named
+use Rattle.names.specs.Names.{placeOf}
 use Rattle.choice.specs.declared.Choice.{Choice}
 use Rattle.choice.specs.declared.Choice.the-variants as Choice
 use Rattle.calls.specs.Choose.{Chosen, searched}

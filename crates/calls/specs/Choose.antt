@@ -11,8 +11,8 @@ use Rattle.network.specs.Filter.{setAside}
 use Rattle.choice.specs.declared.Choice.{Choice}
 use Rattle.choice.specs.declared.Choice.the-variants as Choice
 use Rattle.choice.specs.Choice.{selection}
-use Rattle.lending.specs.Answers.{Answer, refusal, value, onJob, behind, Said, answered, refusalSaid}
-use Rattle.lending.specs.Tests.{groupsTest, goalsTest}
+use Rattle.arguments.specs.Answers.{Answer, refusal, value, onJob, behind, Said, answered, refusalSaid}
+use Rattle.arguments.specs.Tests.{groupsTest, goalsTest}
 use Rattle.calls.specs.declared.ChoiceAnswer.{ChoiceAnswer}
 use Rattle.calls.specs.declared.ChoiceAnswer.the-variants as ChoiceAnswer
 

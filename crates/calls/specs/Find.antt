@@ -5,8 +5,8 @@ use lib.ListN.{getD}
 use Rattle.reading.specs.declared.Reason.the-variants.{NameNotFound}
 use Rattle.jobfile.specs.Job.{Job, namesOf, size}
 use Rattle.jobfile.specs.Read.{readJob, either}
-use Rattle.matching.specs.Names.{lowestNamed}
-use Rattle.lending.specs.Answers.{Answer, onJob, found, Said, answered, refusalSaid}
+use Rattle.names.specs.Names.{lowestNamed}
+use Rattle.arguments.specs.Answers.{Answer, onJob, found, Said, answered, refusalSaid}
 use Rattle.calls.specs.declared.FindAnswer.{FindAnswer}
 use Rattle.calls.specs.declared.FindAnswer.the-variants as FindAnswer
 

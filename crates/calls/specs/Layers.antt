@@ -4,10 +4,10 @@ use Prim.Native.Nat.{ℕ}
 use lib.ListN.{length}
 use Rattle.jobfile.specs.Job.{Job, horizon}
 use Rattle.jobfile.specs.Read.{readJob, fittings}
-use Rattle.graph.specs.Rounds.{fittingOf}
-use Rattle.graph.specs.Layers.{Layer, factLayer, roundLayer}
-use Rattle.lending.specs.Answers.{Answer, value, onJob, behind, Said, answered, refusalSaid, Left, leaving}
-use Rattle.lending.specs.Tests.{layerTest}
+use Rattle.planning.specs.Rounds.{fittingOf}
+use Rattle.planning.specs.Layers.{Layer, factLayer, roundLayer}
+use Rattle.arguments.specs.Answers.{Answer, value, onJob, behind, Said, answered, refusalSaid, Left, leaving}
+use Rattle.arguments.specs.Tests.{layerTest}
 use Rattle.calls.specs.declared.FactsAnswer.{FactsAnswer}
 use Rattle.calls.specs.declared.FactsAnswer.the-variants as FactsAnswer
 use Rattle.calls.specs.declared.VerticesAnswer.{VerticesAnswer}

@@ -5,7 +5,7 @@ use Rattle.jobfile.specs.Read.{readJob, choices}
 use Rattle.network.specs.Network.{networkOf}
 use Rattle.network.specs.Groups.{groupsTo}
 use Rattle.choice.specs.Choice.{soleGoal}
-use Rattle.lending.specs.Answers.{Answer, onJob}
+use Rattle.arguments.specs.Answers.{Answer, onJob}
 use Rattle.calls.specs.Choose.{Chosen, chooseIn}
 use Prim.Native.Nat.{ℕ}
 

@@ -6,8 +6,8 @@ use Rattle.jobfile.specs.Job.{Job, size}
 use Rattle.jobfile.specs.Read.{readJob, choices}
 use Rattle.network.specs.Network.{networkOf}
 use Rattle.network.specs.Groups.{groupsTo}
-use Rattle.lending.specs.Answers.{Answer, value, onJob, behind, Said, answered, refusalSaid, Left, leaving}
-use Rattle.lending.specs.Tests.{roomTest}
+use Rattle.arguments.specs.Answers.{Answer, value, onJob, behind, Said, answered, refusalSaid, Left, leaving}
+use Rattle.arguments.specs.Tests.{roomTest}
 use Rattle.calls.specs.declared.PartitionAnswer.{PartitionAnswer}
 use Rattle.calls.specs.declared.PartitionAnswer.the-variants as PartitionAnswer
 

@@ -6,8 +6,8 @@ use Rattle.jobfile.specs.Job.{Job, size, order}
 use Rattle.jobfile.specs.Read.{readJob, choices}
 use Rattle.network.specs.Network.{networkOf}
 use Rattle.network.specs.Filter.{pass}
-use Rattle.lending.specs.Answers.{Answer, value, onJob, behind, Said, answered, refusalSaid}
-use Rattle.lending.specs.Tests.{groupsTest, passTest}
+use Rattle.arguments.specs.Answers.{Answer, value, onJob, behind, Said, answered, refusalSaid}
+use Rattle.arguments.specs.Tests.{groupsTest, passTest}
 use Rattle.calls.specs.declared.PassAnswer.{PassAnswer}
 use Rattle.calls.specs.declared.PassAnswer.the-variants as PassAnswer
 

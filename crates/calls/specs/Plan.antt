@@ -7,9 +7,9 @@ use Rattle.reading.specs.declared.Reason.the-variants.{NoPlan}
 use Rattle.reading.specs.Got.{Got, got, refused}
 use Rattle.jobfile.specs.Job.{Job, horizon}
 use Rattle.jobfile.specs.Read.{readJob, fittings}
-use Rattle.graph.specs.Rounds.{Fitting, fittingOf, Plan, fewest}
-use Rattle.lending.specs.Answers.{Answer, refusal, value, onJob, behind, found, Said, answered, refusalSaid}
-use Rattle.lending.specs.Tests.{roomTest}
+use Rattle.planning.specs.Rounds.{Fitting, fittingOf, Plan, fewest}
+use Rattle.arguments.specs.Answers.{Answer, refusal, value, onJob, behind, found, Said, answered, refusalSaid}
+use Rattle.arguments.specs.Tests.{roomTest}
 use Rattle.calls.specs.declared.PlanAnswer.{PlanAnswer}
 use Rattle.calls.specs.declared.PlanAnswer.the-variants as PlanAnswer
 

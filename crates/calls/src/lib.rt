@@ -6,8 +6,8 @@
 ghost use mathlib.Core.Path.{_≡_};
 ghost use Rattle.reading.specs.declared.Reason.the-variants.{NameNotFound};
 ghost use Rattle.jobfile.specs.Read.{readJob, fittings};
-ghost use Rattle.matching.specs.Names.{placeOf};
-ghost use Rattle.lending.specs.Answers.{found, said};
+ghost use Rattle.names.specs.Names.{placeOf};
+ghost use Rattle.arguments.specs.Answers.{found, said};
 ghost use Rattle.calls.specs.Partition.{partitionOf, partitionTold};
 ghost use Rattle.calls.specs.Pass.{passOf, passTold};
 ghost use Rattle.calls.specs.Choose.{chooseOf, searched, choiceTold};
@@ -19,10 +19,10 @@ ghost use Rattle.calls.specs.Find.{findOf, findTold};
 ghost use Rattle.calls.specs.Compare.{compareOf, compareTold};
 use choice::Choice;
 use jobfile::Verdict;
-use lending::written;
-use matching::likeness;
-use matching::names;
-use matching::names::Named;
+use arguments::written;
+use names::likeness;
+use names::names;
+use names::names::Named;
 use planner::Planned;
 use reading::Reason;
 use reading::Refusal;
@@ -45,7 +45,7 @@ pub fn partition(file: &[u8], groups: &mut [u8]) -> PartitionAnswer
     if let Verdict::Refused(refusal) = verdict {
         return PartitionAnswer::Refused(refusal);
     }
-    let tested = lending::room(groups.len(), read.articles);
+    let tested = arguments::room(groups.len(), read.articles);
     if let Verdict::Refused(refusal) = tested {
         return PartitionAnswer::Refused(refusal);
     }
@@ -69,17 +69,17 @@ pub fn pass(file: &[u8], groups: &[u8], live: ArticleSet, goal: u64) -> PassAnsw
     if let Verdict::Refused(refusal) = verdict {
         return PassAnswer::Refused(refusal);
     }
-    let partition = lending::groups(read, groups);
+    let partition = arguments::groups(read, groups);
     if let Verdict::Refused(refusal) = partition {
         return PassAnswer::Refused(refusal);
     }
-    let tested = lending::live_and_goal(read.articles, read.order, live.bits, goal);
+    let tested = arguments::live_and_goal(read.articles, read.order, live.bits, goal);
     if let Verdict::Refused(refusal) = tested {
         return PassAnswer::Refused(refusal);
     }
     let wishes = read.wishes;
     PassAnswer::Live(ArticleSet {
-        bits: filtering::pass(&wishes, groups, read.articles, live.bits, goal),
+        bits: filter::pass(&wishes, groups, read.articles, live.bits, goal),
     })
 }
 
@@ -97,7 +97,7 @@ fn searched(chosen: Choice) -> ChoiceAnswer
         Choice::Chosen(x, aside) => {
             ChoiceAnswer::Chosen(ArticleSet { bits: x }, ArticleSet { bits: aside })
         }
-        Choice::Nothing => ChoiceAnswer::Refused(lending::refusal_at(Reason::NoSelection, 0)),
+        Choice::Nothing => ChoiceAnswer::Refused(arguments::refusal_at(Reason::NoSelection, 0)),
     }
 }
 
@@ -111,11 +111,11 @@ pub fn choose(file: &[u8], groups: &[u8], goals: &[u64], floor: u64) -> ChoiceAn
     if let Verdict::Refused(refusal) = verdict {
         return ChoiceAnswer::Refused(refusal);
     }
-    let partition = lending::groups(read, groups);
+    let partition = arguments::groups(read, groups);
     if let Verdict::Refused(refusal) = partition {
         return ChoiceAnswer::Refused(refusal);
     }
-    let tested = lending::goals(read.order, goals);
+    let tested = arguments::goals(read.order, goals);
     if let Verdict::Refused(refusal) = tested {
         return ChoiceAnswer::Refused(refusal);
     }
@@ -165,7 +165,7 @@ pub fn fact_layer(file: &[u8], k: usize, words: &mut [u32]) -> FactsAnswer
     if let Verdict::Refused(refusal) = verdict {
         return FactsAnswer::Refused(refusal);
     }
-    let tested = lending::layer(k, 0, read.horizon, words.len(), 32);
+    let tested = arguments::layer(k, 0, read.horizon, words.len(), 32);
     if let Verdict::Refused(refusal) = tested {
         return FactsAnswer::Refused(refusal);
     }
@@ -191,7 +191,7 @@ pub fn round_layer(file: &[u8], k: usize, words: &mut [u64]) -> VerticesAnswer
     if let Verdict::Refused(refusal) = verdict {
         return VerticesAnswer::Refused(refusal);
     }
-    let tested = lending::layer(k, 1, read.horizon, words.len(), 64);
+    let tested = arguments::layer(k, 1, read.horizon, words.len(), 64);
     if let Verdict::Refused(refusal) = tested {
         return VerticesAnswer::Refused(refusal);
     }
@@ -218,14 +218,14 @@ pub fn plan(file: &[u8], words: &mut [u32]) -> PlanAnswer
     if let Verdict::Refused(refusal) = verdict {
         return PlanAnswer::Refused(refusal);
     }
-    let tested = lending::room(words.len(), read.horizon);
+    let tested = arguments::room(words.len(), read.horizon);
     if let Verdict::Refused(refusal) = tested {
         return PlanAnswer::Refused(refusal);
     }
     let made = planner::plan(read, words);
     match made {
         Planned::Rounds(k) => PlanAnswer::Rounds(k),
-        Planned::Nothing => PlanAnswer::Refused(lending::refusal_at(Reason::NoPlan, 0)),
+        Planned::Nothing => PlanAnswer::Refused(arguments::refusal_at(Reason::NoPlan, 0)),
     }
 }
 
@@ -254,7 +254,7 @@ fn found(named: Named) -> FindAnswer
 {
     match named {
         Named::At(i) => FindAnswer::Number(i),
-        Named::Nowhere => FindAnswer::Refused(lending::refusal_at(Reason::NameNotFound, 0)),
+        Named::Nowhere => FindAnswer::Refused(arguments::refusal_at(Reason::NameNotFound, 0)),
     }
 }
 

@@ -4,7 +4,7 @@ use mathlib.Core.List.{List, [], _∷_}
 use Prim.Native.Nat.{ℕ}
 use lib.ListN.{getD}
 use Rattle.reading.specs.declared.Spot.{Spot}
-use Rattle.lending.specs.Answers.{Said, refusedBy, answered}
+use Rattle.arguments.specs.Answers.{Said, refusedBy, answered}
 use Rattle.capi.specs.Returned.{Returned, returned, spotted}
 
 abbrev handed : ℕ → List ℕ → Returned

@@ -3,7 +3,7 @@ use mathlib.Core.Bool.{Bool, true, false}
 use mathlib.Core.List.{List, [], _∷_}
 use Prim.Native.Nat.{ℕ}
 use Rattle.reading.specs.declared.Spot.{Spot}
-use Rattle.lending.specs.Answers.{Said, refusedBy, answered}
+use Rattle.arguments.specs.Answers.{Said, refusedBy, answered}
 use Rattle.calls.specs.Choose.{Chosen}
 
 pub record Returned : Type 0 where

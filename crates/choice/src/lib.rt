@@ -91,7 +91,7 @@ fn left_live(wishes: &[u64; 64], n: usize, groups: &[u8], goals: &[u64]) -> u64
     let mut live = word::full(n);
     let mut i: usize = 0;
     while i < goals.len() {
-        live = filtering::pass(wishes, groups, n, live, goal_at(goals, i));
+        live = filter::pass(wishes, groups, n, live, goal_at(goals, i));
         i += 1;
     }
     live

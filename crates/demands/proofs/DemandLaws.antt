@@ -26,9 +26,9 @@ use Rattle.reading.specs.Reasons.{numberOf, answers}
 use Rattle.reading.specs.Got.{Got, got, refused}
 use Rattle.jobfile.specs.Job.{Record, Job, namesOf, size, wishCount, order, wishes, clashes, horizon}
 use Rattle.jobfile.specs.Read.{readJob}
-use Rattle.matching.specs.Same.{sameList, sameName, alike}
-use Rattle.matching.specs.Names.{lowestNamed}
-use Rattle.matching.proofs.SameLaws.{list-same, agree}
+use Rattle.names.specs.Same.{sameList, sameName, alike}
+use Rattle.names.specs.Names.{lowestNamed}
+use Rattle.names.proofs.SameLaws.{list-same, agree}
 use Rattle.network.specs.Network.{Network, networkOf, clash}
 use Rattle.network.specs.Groups.{misplaced, firstMisplaced}
 use Rattle.network.specs.Filter.{outside, badGoal, firstBad, setAside}
@@ -36,10 +36,10 @@ use Rattle.network.proofs.GroupLaws.{lent-right}
 use Rattle.network.proofs.GoalLaws.{goals-within}
 use Rattle.choice.specs.Choice.{selection}
 use Rattle.choice.proofs.Theorems.{none-exactly, the-smallest, set-aside}
-use Rattle.graph.specs.Rounds.{fittingOf, fewest}
-use Rattle.graph.proofs.PlanLaws.{fewest-none, fewest-some}
-use Rattle.lending.specs.Answers.{Answer, refusal, value, onJob, unless, unlessAt, passed, behind, found, Said, refusedBy, answered, said, accepted, leaving}
-use Rattle.lending.specs.Tests.{roomTest, layerTest, groupsTest, passTest, goalsTest}
+use Rattle.planning.specs.Rounds.{fittingOf, fewest}
+use Rattle.planning.proofs.PlanLaws.{fewest-none, fewest-some}
+use Rattle.arguments.specs.Answers.{Answer, refusal, value, onJob, unless, unlessAt, passed, behind, found, Said, refusedBy, answered, said, accepted, leaving}
+use Rattle.arguments.specs.Tests.{roomTest, layerTest, groupsTest, passTest, goalsTest}
 use Rattle.demands.specs.Demands.{Exactly, Refuses, Says, Fault, FirstOf, Off, Wrong, absentLayer, shortBuffer, Misplaced, falsePartition, absentArticle, Bad, wrongGoal, wrongGoals, Has, Alike, ChoiceKept, PlanKept}
 use Rattle.calls.specs.Choose.{Chosen, chosenOr, chooseIn}
 use Rattle.calls.specs.Plan.{planIn, WordsIn}

@@ -20,19 +20,19 @@ use Rattle.jobfile.specs.Answers.{spotIn, nameIn}
 use Rattle.jobfile.proofs.NamingLaws.{name-at-spot}
 use Rattle.reading.specs.Items.{spots}
 use Rattle.jobfile.proofs.Theorems.{exact-and-valid, kind-taken, read-back, one-writing}
-use Rattle.matching.specs.Names.{lowestNamed}
-use Rattle.matching.specs.Same.{alike}
+use Rattle.names.specs.Names.{lowestNamed}
+use Rattle.names.specs.Same.{alike}
 use Rattle.network.specs.Network.{Selection, networkOf}
 use Rattle.network.specs.Groups.{Partition, groupsTo, groupOf}
 use Rattle.network.specs.Filter.{pass, setAside}
 use Rattle.network.proofs.GroupLaws.{groups-length, groups-right}
 use Rattle.choice.specs.Choice.{selection}
 use Rattle.choice.proofs.Theorems.{none-exactly, exactly-none}
-use Rattle.graph.specs.Rounds.{fittingOf, Plan, fewest}
-use Rattle.graph.specs.Layers.{factLayer, roundLayer}
-use Rattle.graph.proofs.PlanLaws.{fewest-none, none-fewest}
-use Rattle.layering.proofs.LayerCode.{facts-length, rounds-length}
-use Rattle.lending.specs.Answers.{Answer, refusal, value, onJob, Said, refusedBy, answered, said, accepted}
+use Rattle.planning.specs.Rounds.{fittingOf, Plan, fewest}
+use Rattle.planning.specs.Layers.{factLayer, roundLayer}
+use Rattle.planning.proofs.PlanLaws.{fewest-none, none-fewest}
+use Rattle.layers.proofs.LayerCode.{facts-length, rounds-length}
+use Rattle.arguments.specs.Answers.{Answer, refusal, value, onJob, Said, refusedBy, answered, said, accepted}
 use Rattle.calls.specs.Partition.{partitionIn, partitionOf}
 use Rattle.calls.specs.Pass.{passIn, passOf}
 use Rattle.calls.specs.Choose.{chosenOr, chooseIn, chooseOf}

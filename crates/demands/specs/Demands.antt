@@ -14,8 +14,8 @@ use Rattle.jobfile.specs.Job.{Job, namesOf, size, wishCount, order, wishes, cla
 use Rattle.jobfile.specs.Read.{readJob}
 use Rattle.network.specs.Network.{Network, Selection, networkOf, clash}
 use Rattle.network.specs.Filter.{setAside}
-use Rattle.graph.specs.Rounds.{fittingOf, Plan}
-use Rattle.lending.specs.Answers.{Said, refusedBy, answered}
+use Rattle.planning.specs.Rounds.{fittingOf, Plan}
+use Rattle.arguments.specs.Answers.{Said, refusedBy, answered}
 use Rattle.calls.specs.Choose.{Chosen}
 
 -- the one exactly when the other

@@ -12,8 +12,8 @@ use Rattle.reading.specs.Items.{spots}
 use Rattle.jobfile.specs.Job.{Job, size}
 use Rattle.jobfile.specs.Read.{read, readJob, fittings, either}
 use Rattle.jobfile.specs.Answers.{spotIn}
-use Rattle.graph.specs.Rounds.{fittingOf, isPlan}
-use Rattle.lending.specs.Answers.{Answer, value, onJob, Said, refusedBy, answered, said, Left}
+use Rattle.planning.specs.Rounds.{fittingOf, isPlan}
+use Rattle.arguments.specs.Answers.{Answer, value, onJob, Said, refusedBy, answered, said, Left}
 use Rattle.calls.specs.Partition.{partitionOf}
 use Rattle.calls.specs.Pass.{passOf}
 use Rattle.calls.specs.Choose.{Chosen, chooseOf}

@@ -24,9 +24,9 @@ use Rattle.jobfile.specs.Answers as Answers
 use Rattle.jobfile.proofs.Lawful.{All, then-got, refuse-got, same-value}
 use Rattle.jobfile.proofs.ReadLaws.{padded-at, nothing-there}
 use Rattle.jobfile.proofs.NamingLaws.{mapGot, recordBy, jobBy, read-same}
-use Rattle.graph.specs.Rounds.{fittingOf}
-use Rattle.graph.specs.Back.{Sized}
-use Rattle.layering.specs.Drawn.{fittingIn}
+use Rattle.planning.specs.Rounds.{fittingOf}
+use Rattle.planning.specs.Back.{Sized}
+use Rattle.layers.specs.Drawn.{fittingIn}
 
 -- ---- items
 

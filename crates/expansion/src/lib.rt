@@ -1,11 +1,11 @@
 // Fact layer k and round layer k of a fitting file as read: `layering` makes one from the one below it.
 ghost use mathlib.Core.Path.{_≡_};
 ghost use Prim.Native.Nat.{_<_};
-ghost use Rattle.graph.specs.Layers.{factLayer, roundLayer};
-ghost use Rattle.graph.specs.Back.{Sized};
-ghost use Rattle.layering.specs.Drawn.{layer, roomy, fittingIn};
+ghost use Rattle.planning.specs.Layers.{factLayer, roundLayer};
+ghost use Rattle.planning.specs.Back.{Sized};
+ghost use Rattle.layers.specs.Drawn.{layer, roomy, fittingIn};
 use jobfile::ReadFitting;
-use layering::Layer;
+use layers::Layer;
 
 // Fact layer k.
 pub fn fact_layer(job: ReadFitting, k: usize) -> Layer
@@ -15,18 +15,18 @@ pub fn fact_layer(job: ReadFitting, k: usize) -> Layer
     let a = job.needs;
     let b = job.gives;
     let c = job.takes;
-    let needs = layering::with_keepers(&a);
-    let gives = layering::with_keepers(&b);
-    let takes = layering::without_keepers(&c);
+    let needs = layers::with_keepers(&a);
+    let gives = layers::with_keepers(&b);
+    let takes = layers::without_keepers(&c);
     let mut facts = Layer {
         members: job.start,
         words: [0; 64],
     };
     let mut i: usize = 0;
     while i < k {
-        facts = layering::facts_over(
+        facts = layers::facts_over(
             &gives,
-            layering::round_over(&needs, &gives, &takes, job.steps, facts),
+            layers::round_over(&needs, &gives, &takes, job.steps, facts),
         );
         i += 1;
     }
@@ -41,8 +41,8 @@ pub fn round_layer(job: ReadFitting, k: usize) -> Layer
     let a = job.needs;
     let b = job.gives;
     let c = job.takes;
-    let needs = layering::with_keepers(&a);
-    let gives = layering::with_keepers(&b);
-    let takes = layering::without_keepers(&c);
-    layering::round_over(&needs, &gives, &takes, job.steps, fact_layer(job, k - 1))
+    let needs = layers::with_keepers(&a);
+    let gives = layers::with_keepers(&b);
+    let takes = layers::without_keepers(&c);
+    layers::round_over(&needs, &gives, &takes, job.steps, fact_layer(job, k - 1))
 }

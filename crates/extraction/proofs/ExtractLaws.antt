@@ -20,8 +20,8 @@ use Rattle.choice.specs.declared.Found.the-variants as Found
 use Rattle.choice.specs.Choice.{Cover, smallest}
 use Rattle.choice.specs.Search.{foundBy, Finds}
 use Rattle.choice.proofs.CoverLaws.{widened}
-use Rattle.questions.specs.Questions.{rowOf, Opens, Uncovered}
-use Rattle.questions.proofs.LayerLaws.{asked}
+use Rattle.supports.specs.Questions.{rowOf, Opens, Uncovered}
+use Rattle.supports.proofs.LayerLaws.{asked}
 use Rattle.extraction.specs.Extraction.{Graph, Picks, needed, Back, Held, Fine, Nogoods, StoredIf, Blocked, Lacking, Refuses}
 use Rattle.extraction.proofs.NogoodLaws.{stored-if, whole-box}
 

@@ -10,7 +10,7 @@ use Rattle.sets.specs.Sets.{_⊆_, gathered}
 use Rattle.network.specs.Network.{listed}
 use Rattle.tables.specs.Tables.{Tabled}
 use Rattle.choice.specs.Choice.{Cover}
-use Rattle.questions.specs.Questions.{rowOf}
+use Rattle.supports.specs.Questions.{rowOf}
 use Rattle.extraction.specs.declared.Outcome.{Outcome}
 use Rattle.extraction.specs.declared.Outcome.the-variants as Outcome
 

@@ -138,10 +138,10 @@ pub fn extract(
         return Outcome::Refuted(c | why);
     }
     let j = k - 1;
-    let open = questions::open_to(needs, members[j], may);
-    let picked = questions::ask(gives, carriers, words, j, open, goal);
+    let open = supports::open_to(needs, members[j], may);
+    let picked = supports::ask(gives, carriers, words, j, open, goal);
     let Found::Set(selection) = picked else {
-        let e = questions::explain(gives, carriers, words, j, open, goal, why);
+        let e = supports::explain(gives, carriers, words, j, open, goal, why);
         nogoods::store(table, k, e, first);
         return Outcome::Refuted(e);
     };

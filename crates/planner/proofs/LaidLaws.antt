@@ -7,10 +7,10 @@ use native.Mathlib.Omega.{arith}
 use lib.ListN.{length, getD, take, drop, set, replicate, length-set, length-replicate}
 use lib.Seq.{length-take-le, take-all, take-add, take-take, take-append-le, drop-at, getD-set-same, getD-set-other, paste, paste-suc, length-paste, take-paste}
 use Rattle.sets.proofs.Ranges.{one-more}
-use Rattle.graph.specs.Rounds.{Fitting}
-use Rattle.graph.specs.Layers.{Layer}
-use Rattle.layering.specs.Drawn.{layer}
-use Rattle.questions.specs.Questions.{rowOf}
+use Rattle.planning.specs.Rounds.{Fitting}
+use Rattle.planning.specs.Layers.{Layer}
+use Rattle.layers.specs.Drawn.{layer}
+use Rattle.supports.specs.Questions.{rowOf}
 use Rattle.planner.specs.Tabulated.{roundAfter, Laid, Put}
 
 -- ---- a row

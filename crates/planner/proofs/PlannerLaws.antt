@@ -19,14 +19,14 @@ use Rattle.network.specs.Network.{Network, listed, clash}
 use Rattle.tables.specs.Tables.{transposed, bothWays}
 use Rattle.tables.proofs.TableLaws.{bothRow, filled-end}
 use Rattle.choice.specs.Choice.{Cover}
-use Rattle.graph.specs.Rounds.{Fitting, run, Plan, fewest}
-use Rattle.graph.specs.Layers.{vertices, rivals, standing, roundOver, factLayer}
-use Rattle.graph.specs.Back.{layerNetwork, Selects, needed as neededBy, stepsOf, Reaches, Sized}
-use Rattle.graph.proofs.PlanLaws.{PlanOf, none-fewest, some-fewest, reaches-more}
-use Rattle.graph.proofs.WordLaws.{words-length, rounds-words, rounds-turned}
-use Rattle.graph.proofs.LayerLaws.{roomy}
-use Rattle.graph.proofs.BackLaws.{reaches-plan, forth, back}
-use Rattle.questions.specs.Questions.{rowOf}
+use Rattle.planning.specs.Rounds.{Fitting, run, Plan, fewest}
+use Rattle.planning.specs.Layers.{vertices, rivals, standing, roundOver, factLayer}
+use Rattle.planning.specs.Back.{layerNetwork, Selects, needed as neededBy, stepsOf, Reaches, Sized}
+use Rattle.planning.proofs.PlanLaws.{PlanOf, none-fewest, some-fewest, reaches-more}
+use Rattle.planning.proofs.WordLaws.{words-length, rounds-words, rounds-turned}
+use Rattle.planning.proofs.LayerLaws.{roomy}
+use Rattle.planning.proofs.BackLaws.{reaches-plan, forth, back}
+use Rattle.supports.specs.Questions.{rowOf}
 use Rattle.extraction.specs.Extraction.{Graph, graph, Picks, needed, Back, Held, Fine}
 use Rattle.planner.specs.Planner.{plannedBy, Words}
 use Rattle.planner.specs.Tabulated.{roundAfter, Tabulated, Laid, Unplanned, Searched}

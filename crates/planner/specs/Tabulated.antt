@@ -5,10 +5,10 @@ use Prim.Native.Nat.{ℕ, _+_, _*_, _≤_, _<_}
 use lib.ListN.{length, getD, drop}
 use Rattle.sets.specs.Ranges.{listTo}
 use Rattle.sets.specs.Sets.{full}
-use Rattle.graph.specs.Rounds.{Fitting, Plan}
-use Rattle.graph.specs.Layers.{Layer, vertices, factLayer, roundOver}
-use Rattle.graph.specs.Back.{Sized}
-use Rattle.questions.specs.Questions.{rowOf}
+use Rattle.planning.specs.Rounds.{Fitting, Plan}
+use Rattle.planning.specs.Layers.{Layer, vertices, factLayer, roundOver}
+use Rattle.planning.specs.Back.{Sized}
+use Rattle.supports.specs.Questions.{rowOf}
 use Rattle.extraction.specs.Extraction.{Graph, Back, Held}
 use Rattle.planner.specs.declared.Planned.{Planned}
 use Rattle.planner.specs.declared.Planned.the-variants as Planned

@@ -1,11 +1,11 @@
 // The round layers of a fitting up to its horizon, in flat tables.
 ghost use Prim.Native.Nat.{_+_, _*_, _≤_, _<_};
 ghost use lib.ListN.{length};
-ghost use Rattle.graph.specs.Back.{Sized};
-ghost use Rattle.layering.specs.Drawn.{fittingIn};
+ghost use Rattle.planning.specs.Back.{Sized};
+ghost use Rattle.layers.specs.Drawn.{fittingIn};
 ghost use Rattle.planner.specs.Tabulated.{Laid, Put};
 use jobfile::ReadFitting;
-use layering::Layer;
+use layers::Layer;
 
 // The vertices of each round layer, and 64 mutex words for each.
 pub struct RoundLayers {
@@ -35,9 +35,9 @@ pub fn layers(job: ReadFitting) -> RoundLayers
     let a = job.needs;
     let b = job.gives;
     let c = job.takes;
-    let needs = layering::with_keepers(&a);
-    let gives = layering::with_keepers(&b);
-    let takes = layering::without_keepers(&c);
+    let needs = layers::with_keepers(&a);
+    let gives = layers::with_keepers(&b);
+    let takes = layers::without_keepers(&c);
     let mut members: [u64; 16] = [0; 16];
     let mut words: [u64; 1024] = [0; 1024];
     let mut facts = Layer {
@@ -46,11 +46,11 @@ pub fn layers(job: ReadFitting) -> RoundLayers
     };
     let mut j: usize = 0;
     while j < job.horizon {
-        let round = layering::round_over(&needs, &gives, &takes, job.steps, facts);
+        let round = layers::round_over(&needs, &gives, &takes, job.steps, facts);
         let row = round.words;
         members[j] = round.members;
         put(&mut words, j, &row);
-        facts = layering::facts_over(&gives, round);
+        facts = layers::facts_over(&gives, round);
         j += 1;
     }
     RoundLayers {

@@ -3,9 +3,9 @@
 ghost use mathlib.Core.Path.{_≡_};
 ghost use Prim.Native.Nat.{_≤_};
 ghost use lib.ListN.{length};
-ghost use Rattle.graph.specs.Rounds.{fewest};
-ghost use Rattle.graph.specs.Back.{Sized};
-ghost use Rattle.layering.specs.Drawn.{fittingIn};
+ghost use Rattle.planning.specs.Rounds.{fewest};
+ghost use Rattle.planning.specs.Back.{Sized};
+ghost use Rattle.layers.specs.Drawn.{fittingIn};
 ghost use Rattle.planner.specs.Planner.{plannedBy, Words};
 
 mod layers;
@@ -28,8 +28,8 @@ pub fn plan(job: ReadFitting, out: &mut [u32]) -> Planned
 {
     let a = job.needs;
     let b = job.gives;
-    let needs = layering::with_keepers(&a);
-    let gives = layering::with_keepers(&b);
+    let needs = layers::with_keepers(&a);
+    let gives = layers::with_keepers(&b);
     let carriers = tables::transposed(&gives);
     let made = layers::layers(job);
     let members = made.members;

@@ -3,8 +3,8 @@ ghost use Prim.Native.Nat.{_≤_};
 ghost use lib.ListN.{length};
 ghost use Rattle.sets.specs.Sets.{_⊆_};
 ghost use Rattle.extraction.specs.Extraction.{graph, Fine};
-ghost use Rattle.layering.specs.Drawn.{fittingIn};
-ghost use Rattle.states.specs.States.{Hopeless};
+ghost use Rattle.layers.specs.Drawn.{fittingIn};
+ghost use Rattle.reachability.specs.States.{Hopeless};
 ghost use Rattle.planner.specs.Tabulated.{Copied, Unplanned, Searched};
 use crate::Planned;
 use extraction::Outcome;
@@ -30,7 +30,7 @@ fn stuck(job: ReadFitting, before: u64, stored: u64) -> bool
 {
     if before < 64 {
         if 64 <= stored {
-            return states::hopeless(job);
+            return reachability::hopeless(job);
         }
     }
     false

@@ -21,9 +21,9 @@ use Rattle.jobfile.specs.Read.{layoutAt, read, readJob, choices, fittings}
 use Rattle.network.specs.Network.{networkOf}
 use Rattle.network.specs.Groups.{groupsTo}
 use Rattle.choice.specs.Choice.{soleGoal}
-use Rattle.graph.specs.Rounds.{fittingOf, fewest}
-use Rattle.graph.proofs.PlanLaws.{fewest-some}
-use Rattle.lending.specs.Answers.{onJob, unless, behind, found, passed, Said, refusedBy, answered, said}
+use Rattle.planning.specs.Rounds.{fittingOf, fewest}
+use Rattle.planning.proofs.PlanLaws.{fewest-some}
+use Rattle.arguments.specs.Answers.{onJob, unless, behind, found, passed, Said, refusedBy, answered, said}
 use Rattle.calls.specs.declared.PlanAnswer.{PlanAnswer}
 use Rattle.calls.specs.Choose.{Chosen, chooseIn, chooseOf}
 use Rattle.calls.specs.Offer.{offerIn, offerOf}

@@ -7,7 +7,7 @@ use lib.Dec.{eqb}
 use lib.ListN.{getD}
 use Rattle.sets.specs.Ranges.{listTo}
 use Rattle.jobfile.specs.Read.{readJob, fittings}
-use Rattle.lending.specs.Answers.{Said, refusedBy, answered, said, refusalSaid}
+use Rattle.arguments.specs.Answers.{Said, refusedBy, answered, said, refusalSaid}
 use Rattle.calls.specs.Choose.{Chosen}
 use Rattle.calls.specs.Offer.{offerOf}
 use Rattle.calls.specs.Plan.{planOf, Buffer}

@@ -1,7 +1,7 @@
 // What the program does with a file, and the text that it prints.
 ghost use mathlib.Core.Path.{_≡_};
 ghost use Rattle.text.specs.Pages.{shown};
-ghost use Rattle.lending.specs.Answers.{said};
+ghost use Rattle.arguments.specs.Answers.{said};
 ghost use Rattle.calls.specs.Offer.{offerOf};
 ghost use Rattle.report.specs.Outcome.{selected, mapped, RoundWords, outcomeOf, Within, textOf, Prints, outcomeTold};
 use calls::ChoiceAnswer;

@@ -8,7 +8,7 @@ use sets::ArticleSet;
 
 // Case B of the rules.
 fn case_b() -> [u8; 46] {
-    let mut file = samples::case_a();
+    let mut file = show_samples::case_a();
     file[2] = 3;
     file[3] = 7;
     file[21] = 3;
@@ -17,18 +17,18 @@ fn case_b() -> [u8; 46] {
 }
 
 fn say_set(text: &[u8], s: u64) {
-    print::say(text);
-    print::members(s);
+    show_print::say(text);
+    show_print::members(s);
 }
 
 // A number and a space before it, so many times.
 fn say_bytes(bytes: &[u8]) {
     let mut i: usize = 0;
     while i < bytes.len() {
-        print::say_number(b" ", wide(bytes[i]));
+        show_print::say_number(b" ", wide(bytes[i]));
         i += 1;
     }
-    print::say(b"\n");
+    show_print::say(b"\n");
 }
 
 fn wide(x: u8) -> u64 {
@@ -36,52 +36,52 @@ fn wide(x: u8) -> u64 {
 }
 
 fn partition(label: &[u8], file: &[u8], groups: &mut [u8]) {
-    print::say(b"partition of ");
-    print::say(label);
+    show_print::say(b"partition of ");
+    show_print::say(label);
     let answer = calls::partition(file, groups);
     match answer {
-        PartitionAnswer::Done => print::say(b": done\n"),
+        PartitionAnswer::Done => show_print::say(b": done\n"),
         PartitionAnswer::Refused(refusal) => {
-            print::say(b": ");
-            samples::say_refusal(refusal);
+            show_print::say(b": ");
+            show_samples::say_refusal(refusal);
         }
     }
-    print::say(b"  bytes");
+    show_print::say(b"  bytes");
     say_bytes(groups);
 }
 
 fn pass(label: &[u8], file: &[u8], groups: &[u8], live: u64, goal: u64) {
-    print::say(b"pass over ");
-    print::say(label);
+    show_print::say(b"pass over ");
+    show_print::say(label);
     say_set(b", live", live);
     say_set(b", goal", goal);
     let answer = calls::pass(file, groups, ArticleSet { bits: live }, goal);
     match answer {
         PassAnswer::Live(s) => {
             say_set(b": live", s.bits);
-            print::say(b"\n");
+            show_print::say(b"\n");
         }
         PassAnswer::Refused(refusal) => {
-            print::say(b": ");
-            samples::say_refusal(refusal);
+            show_print::say(b": ");
+            show_samples::say_refusal(refusal);
         }
     }
 }
 
 fn choose(label: &[u8], file: &[u8], groups: &[u8], goals: &[u64], floor: u64) {
-    print::say(b"choice on ");
-    print::say(label);
-    print::say_number(b" at floor ", floor);
+    show_print::say(b"choice on ");
+    show_print::say(label);
+    show_print::say_number(b" at floor ", floor);
     let answer = calls::choose(file, groups, goals, floor);
     match answer {
         ChoiceAnswer::Chosen(s, aside) => {
             say_set(b": chosen", s.bits);
             say_set(b" aside", aside.bits);
-            print::say(b"\n");
+            show_print::say(b"\n");
         }
         ChoiceAnswer::Refused(refusal) => {
-            print::say(b": ");
-            samples::say_refusal(refusal);
+            show_print::say(b": ");
+            show_samples::say_refusal(refusal);
         }
     }
 }
@@ -91,7 +91,7 @@ fn partitions(a: &[u8]) {
     partition(b"A in two bytes", a, &mut [9, 9]);
     partition(
         b"A without its last byte, in two bytes",
-        samples::first(a, 45),
+        show_samples::first(a, 45),
         &mut [9, 9],
     );
 }
@@ -135,7 +135,7 @@ fn empty_orders() {
 }
 
 fn main() {
-    let a = samples::case_a();
+    let a = show_samples::case_a();
     let b = case_b();
     partitions(&a);
     passes(&b);

@@ -13,17 +13,17 @@ fn add(tally: &mut [u64; 9], reason: usize) {
 
 // What a damaged file gives, in short: `ok`, or the reason and the place.
 fn note(file: &[u8], tally: &mut [u64; 9]) {
-    let given = samples::verdict(file);
+    let given = show_samples::verdict(file);
     match given {
         Verdict::Accepted => {
-            print::say(b" ok");
+            show_print::say(b" ok");
             add(tally, 0);
         }
         Verdict::Refused(refusal) => {
             let why = refusal.reason;
             let reason = reading::number(why);
-            print::say_number(b" ", reason as u64);
-            print::say_number(b"@", refusal.place as u64);
+            show_print::say_number(b" ", reason as u64);
+            show_print::say_number(b"@", refusal.place as u64);
             add(tally, reason as usize);
         }
     }
@@ -44,27 +44,27 @@ fn flips(file: &mut [u8], place: usize, tally: &mut [u64; 9])
 }
 
 fn totals(label: &[u8], tally: &[u64; 9]) {
-    print::say(label);
-    print::say(b" damaged, accepted and refused by 1 to 8:");
+    show_print::say(label);
+    show_print::say(b" damaged, accepted and refused by 1 to 8:");
     let mut reason: usize = 0;
     while reason < 9 {
-        print::say_number(b" ", tally[reason]);
+        show_print::say_number(b" ", tally[reason]);
         reason += 1;
     }
-    print::say(b"\n");
+    show_print::say(b"\n");
 }
 
 // The bytes before a place alone, then the file with each bit of the byte there flipped.
 fn at_place(label: &[u8], file: &mut [u8], place: usize, tally: &mut [u64; 9])
     requires { ⌜ place < length (now file) ⌝ }
 {
-    print::say(label);
-    print::say_number(b" ", place as u64);
-    print::say(b":");
-    note(samples::first(file, place), tally);
-    print::say(b", bits");
+    show_print::say(label);
+    show_print::say_number(b" ", place as u64);
+    show_print::say(b":");
+    note(show_samples::first(file, place), tally);
+    show_print::say(b", bits");
     flips(file, place, tally);
-    print::say(b"\n");
+    show_print::say(b"\n");
 }
 
 fn damage(label: &[u8], file: &mut [u8]) {
@@ -78,10 +78,10 @@ fn damage(label: &[u8], file: &mut [u8]) {
 }
 
 fn main() {
-    let mut a = samples::case_a();
-    let mut n = samples::case_n();
-    let mut f = samples::case_f();
-    let mut m = samples::case_m();
+    let mut a = show_samples::case_a();
+    let mut n = show_samples::case_n();
+    let mut f = show_samples::case_f();
+    let mut m = show_samples::case_m();
     damage(b"A", &mut a);
     damage(b"N", &mut n);
     damage(b"F", &mut f);

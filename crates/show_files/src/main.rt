@@ -4,31 +4,31 @@ ghost use Prim.Native.Nat.{_≤_};
 use jobfile::Verdict;
 
 fn case(label: &[u8], file: &[u8]) {
-    print::say(label);
-    print::say_number(b": ", file.len() as u64);
-    print::say(b" bytes, ");
-    let given = samples::verdict(file);
+    show_print::say(label);
+    show_print::say_number(b": ", file.len() as u64);
+    show_print::say(b" bytes, ");
+    let given = show_samples::verdict(file);
     match given {
-        Verdict::Accepted => print::say(b"accepted\n"),
-        Verdict::Refused(refusal) => samples::say_refusal(refusal),
+        Verdict::Accepted => show_print::say(b"accepted\n"),
+        Verdict::Refused(refusal) => show_samples::say_refusal(refusal),
     }
 }
 
 fn say_set(text: &[u8], s: u64) {
-    print::say(text);
-    print::say(b"{");
-    print::members(s);
-    print::say(b" }");
+    show_print::say(text);
+    show_print::say(b"{");
+    show_print::members(s);
+    show_print::say(b" }");
 }
 
 fn article(i: usize, wishes: u64, clashes: u64) {
-    print::say_number(b"  article ", i as u64);
+    show_print::say_number(b"  article ", i as u64);
     say_set(b": wishes ", wishes);
     say_set(b", clashes ", clashes);
 }
 
 fn step(i: usize, needs: u64, gives: u64, takes: u64) {
-    print::say_number(b"  step ", i as u64);
+    show_print::say_number(b"  step ", i as u64);
     say_set(b": needs ", needs);
     say_set(b", gives ", gives);
     say_set(b", takes ", takes);
@@ -41,9 +41,9 @@ fn record(file: &[u8], i: usize, fitting: bool, a: u64, b: u64, c: u64) {
     } else {
         article(i, a, b);
     }
-    print::say(b", name [");
-    print::say(calls::name(file, i));
-    print::say(b"]\n");
+    show_print::say(b", name [");
+    show_print::say(calls::name(file, i));
+    show_print::say(b"]\n");
 }
 
 fn records(file: &[u8], n: usize, fitting: bool, a: [u64; 64], b: [u64; 64], c: [u64; 64])
@@ -58,21 +58,21 @@ fn records(file: &[u8], n: usize, fitting: bool, a: [u64; 64], b: [u64; 64], c: 
 
 fn choice(label: &[u8], file: &[u8]) {
     let read = jobfile::read_choice(file);
-    print::say(label);
-    print::say_number(b": ", read.articles as u64);
-    print::say_number(b" articles, ", read.wish_count as u64);
+    show_print::say(label);
+    show_print::say_number(b": ", read.articles as u64);
+    show_print::say_number(b" articles, ", read.wish_count as u64);
     say_set(b" wishes, order ", read.order);
-    print::say(b"\n");
+    show_print::say(b"\n");
     let wishes = read.wishes;
     let clashes = read.clashes;
     records(file, read.articles, false, wishes, clashes, [0; 64]);
 }
 
 fn counts(label: &[u8], steps: usize, facts: usize, horizon: usize) {
-    print::say(label);
-    print::say_number(b": ", steps as u64);
-    print::say_number(b" steps, ", facts as u64);
-    print::say_number(b" facts, horizon ", horizon as u64);
+    show_print::say(label);
+    show_print::say_number(b": ", steps as u64);
+    show_print::say_number(b" steps, ", facts as u64);
+    show_print::say_number(b" facts, horizon ", horizon as u64);
 }
 
 fn fitting(label: &[u8], file: &[u8]) {
@@ -80,7 +80,7 @@ fn fitting(label: &[u8], file: &[u8]) {
     counts(label, read.steps, read.facts, read.horizon);
     say_set(b", start ", read.start);
     say_set(b", goal ", read.goal);
-    print::say(b"\n");
+    show_print::say(b"\n");
     let needs = read.needs;
     let gives = read.gives;
     let takes = read.takes;
@@ -89,7 +89,7 @@ fn fitting(label: &[u8], file: &[u8]) {
 
 fn cases(a: &[u8], more: &[u8], f: &[u8]) {
     case(b"A", a);
-    case(b"A without its last byte", samples::first(a, 45));
+    case(b"A without its last byte", show_samples::first(a, 45));
     case(b"A with one more byte", more);
     case(b"a choice file of 65 articles", b"CA");
     case(b"F", f);
@@ -105,10 +105,10 @@ fn readings(a: &[u8], n: &[u8], f: &[u8], m: &[u8]) {
 }
 
 fn main() {
-    let a = samples::case_a();
-    let n = samples::case_n();
-    let f = samples::case_f();
-    let m = samples::case_m();
-    cases(&a, &samples::one_more(samples::case_a()), &f);
+    let a = show_samples::case_a();
+    let n = show_samples::case_n();
+    let f = show_samples::case_f();
+    let m = show_samples::case_m();
+    cases(&a, &show_samples::one_more(show_samples::case_a()), &f);
     readings(&a, &n, &f, &m);
 }

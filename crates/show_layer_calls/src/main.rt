@@ -13,8 +13,8 @@ fn case_g() -> [u8; 26] {
 }
 
 fn say_set(text: &[u8], s: u64) {
-    print::say(text);
-    print::members(s);
+    show_print::say(text);
+    show_print::members(s);
 }
 
 // What every word holds that is not written.
@@ -26,17 +26,17 @@ fn wide_word(x: u32) -> u64 {
 
 fn fact_word(words: &[u32], i: usize) {
     if i < words.len() {
-        print::say_number(b"  word ", i as u64);
+        show_print::say_number(b"  word ", i as u64);
         say_set(b":", wide_word(words[i]));
-        print::say(b"\n");
+        show_print::say(b"\n");
     }
 }
 
 fn vertex_word(words: &[u64], i: usize) {
     if i < words.len() {
-        print::say_number(b"  word ", i as u64);
+        show_print::say_number(b"  word ", i as u64);
         say_set(b":", words[i]);
-        print::say(b"\n");
+        show_print::say(b"\n");
     }
 }
 
@@ -46,17 +46,17 @@ fn fact_layer(label: &[u8], file: &[u8], k: usize, count: usize)
 {
     let mut space = [MARK; 33];
     let words = &mut space[..count];
-    print::say_number(b"fact layer ", k as u64);
-    print::say(label);
+    show_print::say_number(b"fact layer ", k as u64);
+    show_print::say(label);
     let answer = calls::fact_layer(file, k, words);
     match answer {
         FactsAnswer::Facts(s) => {
             say_set(b": facts", wide_word(s));
-            print::say(b"\n");
+            show_print::say(b"\n");
         }
         FactsAnswer::Refused(refusal) => {
-            print::say(b": ");
-            samples::say_refusal(refusal);
+            show_print::say(b": ");
+            show_samples::say_refusal(refusal);
         }
     }
     fact_word(words, 0);
@@ -72,17 +72,17 @@ fn round_layer(label: &[u8], file: &[u8], k: usize, count: usize)
 {
     let mut space = [MARK as u64; 65];
     let words = &mut space[..count];
-    print::say_number(b"round layer ", k as u64);
-    print::say(label);
+    show_print::say_number(b"round layer ", k as u64);
+    show_print::say(label);
     let answer = calls::round_layer(file, k, words);
     match answer {
         VerticesAnswer::Vertices(s) => {
             say_set(b": vertices", s);
-            print::say(b"\n");
+            show_print::say(b"\n");
         }
         VerticesAnswer::Refused(refusal) => {
-            print::say(b": ");
-            samples::say_refusal(refusal);
+            show_print::say(b": ");
+            show_samples::say_refusal(refusal);
         }
     }
     vertex_word(words, 0);
@@ -98,7 +98,7 @@ fn fact_layers(f: &[u8], g: &[u8]) {
     fact_layer(b" of G", g, 2, 32);
     fact_layer(b" of G in 31 words", g, 2, 31);
     fact_layer(b" of G in 31 words", g, 3, 31);
-    fact_layer(b" of F without its last byte", samples::first(f, 42), 4, 1);
+    fact_layer(b" of F without its last byte", show_samples::first(f, 42), 4, 1);
 }
 
 fn round_layers(g: &[u8]) {
@@ -109,6 +109,6 @@ fn round_layers(g: &[u8]) {
 
 fn main() {
     let g = case_g();
-    fact_layers(&samples::case_f(), &g);
+    fact_layers(&show_samples::case_f(), &g);
     round_layers(&g);
 }

@@ -1,22 +1,22 @@
 // Shows the layers of fitting files: the cases F and G of the rules, a job whose mutexes come and go,
 // one without steps, and a drawn one with as many steps, facts and rounds as a file can have; and that
 // a refused file has none. reference/layers.py prints the same text from layers of its own.
-ghost use Rattle.graph.specs.Back.{Sized};
-ghost use Rattle.layering.specs.Drawn.{fittingIn};
+ghost use Rattle.planning.specs.Back.{Sized};
+ghost use Rattle.layers.specs.Drawn.{fittingIn};
 
 mod jobs;
 
 use jobfile::ReadFitting;
 use jobfile::Verdict;
-use layering::Layer;
+use layers::Layer;
 use sets::word;
 
 // A number, the members of a set, and the end of the line.
 fn line(text: &[u8], i: usize, s: u64) {
-    print::say_number(text, i as u64);
-    print::say(b":");
-    print::members(s);
-    print::say(b"\n");
+    show_print::say_number(text, i as u64);
+    show_print::say(b":");
+    show_print::members(s);
+    show_print::say(b"\n");
 }
 
 // What one member is mutex with, if there is any.
@@ -52,8 +52,8 @@ fn show_layer(kind: &[u8], k: usize, layer: Layer, whole: bool) {
     if whole {
         rows(&words);
     } else {
-        print::say_number(b"  mutex pairs ", pairs(&words));
-        print::say(b"\n");
+        show_print::say_number(b"  mutex pairs ", pairs(&words));
+        show_print::say(b"\n");
     }
 }
 
@@ -70,17 +70,17 @@ fn show_layers(job: ReadFitting, whole: bool)
 }
 
 fn show(label: &[u8], file: &[u8], whole: bool) {
-    print::say(label);
+    show_print::say(label);
     let job = jobfile::read_fitting(file);
     let verdict = job.verdict;
     match verdict {
         Verdict::Accepted => {
-            print::say(b"\n");
+            show_print::say(b"\n");
             show_layers(job, whole);
         }
         Verdict::Refused(refusal) => {
-            print::say(b": ");
-            samples::say_refusal(refusal);
+            show_print::say(b": ");
+            show_samples::say_refusal(refusal);
         }
     }
 }
@@ -88,15 +88,15 @@ fn show(label: &[u8], file: &[u8], whole: bool) {
 // A file of the other kind, and one that ends early.
 fn show_refused(a: &[u8], f: &[u8]) {
     show(b"A", a, true);
-    show(b"F without its last byte", samples::first(f, 42), true);
+    show(b"F without its last byte", show_samples::first(f, 42), true);
 }
 
 fn main() {
-    let f = samples::case_f();
+    let f = show_samples::case_f();
     show(b"F", &f, true);
     show(b"G", &jobs::case_g(), true);
     show(b"H", &jobs::case_h(), true);
     show(b"no step", &jobs::no_step(), true);
     show(b"drawn", &jobs::drawn(), false);
-    show_refused(&samples::case_a(), &f);
+    show_refused(&show_samples::case_a(), &f);
 }

@@ -4,41 +4,41 @@ use calls::CompareAnswer;
 use calls::FindAnswer;
 
 fn find(wanted: &[u8], label: &[u8], file: &[u8]) {
-    print::say(b"find [");
-    print::say(wanted);
-    print::say(b"] in ");
-    print::say(label);
+    show_print::say(b"find [");
+    show_print::say(wanted);
+    show_print::say(b"] in ");
+    show_print::say(label);
     let found = calls::find(file, wanted);
     match found {
         FindAnswer::Number(i) => {
-            print::say_number(b": ", i as u64);
-            print::say(b"\n");
+            show_print::say_number(b": ", i as u64);
+            show_print::say(b"\n");
         }
         FindAnswer::Refused(refusal) => {
-            print::say(b": ");
-            samples::say_refusal(refusal);
+            show_print::say(b": ");
+            show_samples::say_refusal(refusal);
         }
     }
 }
 
 fn name_of(i: usize, label: &[u8], file: &[u8]) {
-    print::say_number(b"name ", i as u64);
-    print::say(b" of ");
-    print::say(label);
-    print::say(b": [");
-    print::say(calls::name(file, i));
-    print::say(b"]\n");
+    show_print::say_number(b"name ", i as u64);
+    show_print::say(b" of ");
+    show_print::say(label);
+    show_print::say(b": [");
+    show_print::say(calls::name(file, i));
+    show_print::say(b"]\n");
 }
 
 fn compare(label: &[u8], first: &[u8], second: &[u8]) {
-    print::say(b"compare ");
-    print::say(label);
-    print::say(b": ");
+    show_print::say(b"compare ");
+    show_print::say(label);
+    show_print::say(b": ");
     let compared = calls::compare(first, second);
     match compared {
-        CompareAnswer::Alike => print::say(b"alike\n"),
-        CompareAnswer::Unlike => print::say(b"unlike\n"),
-        CompareAnswer::Refused(refusal) => samples::say_refusal(refusal),
+        CompareAnswer::Alike => show_print::say(b"alike\n"),
+        CompareAnswer::Unlike => show_print::say(b"unlike\n"),
+        CompareAnswer::Refused(refusal) => show_samples::say_refusal(refusal),
     }
 }
 
@@ -57,7 +57,7 @@ fn names(label: &[u8], file: &[u8]) {
 fn all_names(n: &[u8], m: &[u8]) {
     names(b"N", n);
     names(b"M", m);
-    names(b"N without its last byte", samples::first(n, 91));
+    names(b"N without its last byte", show_samples::first(n, 91));
 }
 
 fn comparisons(a: &[u8], twin: &[u8], other: &[u8], f: &[u8], short: &[u8]) {
@@ -70,16 +70,16 @@ fn comparisons(a: &[u8], twin: &[u8], other: &[u8], f: &[u8], short: &[u8]) {
 }
 
 fn main() {
-    let a = samples::case_a();
-    let n = samples::case_n();
-    let f = samples::case_f();
-    let m = samples::case_m();
+    let a = show_samples::case_a();
+    let n = show_samples::case_n();
+    let f = show_samples::case_f();
+    let m = show_samples::case_m();
     all_names(&n, &m);
     comparisons(
         &a,
-        &samples::twin_of_a(),
-        &samples::other_order(),
+        &show_samples::twin_of_a(),
+        &show_samples::other_order(),
         &f,
-        samples::first(&a, 45),
+        show_samples::first(&a, 45),
     );
 }

@@ -4,45 +4,45 @@
 // own.
 ghost use Prim.Native.Nat.{_≤_};
 use calls::PlanAnswer;
-use puzzles::Puzzle;
+use show_puzzles::Puzzle;
 use reading::Refusal;
-use trials::Job;
-use trials::Step;
-use trials::rounds;
+use show_trials::Job;
+use show_trials::Step;
+use show_trials::rounds;
 
 // Whether the words from one on are as they were, and the end of the line.
 fn say_kept(words: &[u32; 16], from: usize) {
-    if trials::kept(words, from) {
-        print::say(b" kept\n");
+    if show_trials::kept(words, from) {
+        show_print::say(b" kept\n");
     } else {
-        print::say(b" changed\n");
+        show_print::say(b" changed\n");
     }
 }
 
 fn say_plan(job: Job, words: &[u32; 16], l: usize) {
-    print::say_number(b": rounds ", l as u64);
+    show_print::say_number(b": rounds ", l as u64);
     if rounds::plan_holds(job, words, l) {
-        print::say(b", plan holds");
+        show_print::say(b", plan holds");
     } else {
-        print::say(b", plan fails");
+        show_print::say(b", plan fails");
     }
-    print::say(b", other words");
+    show_print::say(b", other words");
     say_kept(words, l);
 }
 
 fn say_refusal(refusal: Refusal, words: &[u32; 16]) {
     let reason = refusal.reason;
-    print::say_number(b": refused ", reading::number(reason) as u64);
-    print::say_number(b" at ", refusal.place as u64);
-    print::say(b", all words");
+    show_print::say_number(b": refused ", reading::number(reason) as u64);
+    show_print::say_number(b" at ", refusal.place as u64);
+    show_print::say(b", all words");
     say_kept(words, 0);
 }
 
 fn say_round(k: usize, round: u32) {
-    print::say_number(b"", k as u64);
-    print::say(b":");
-    print::members(round as u64);
-    print::say(b"\n");
+    show_print::say_number(b"", k as u64);
+    show_print::say(b":");
+    show_print::members(round as u64);
+    show_print::say(b"\n");
 }
 
 // The rounds, numbered from 1 on.
@@ -60,9 +60,9 @@ fn say_rounds(words: &[u32; 16], l: usize) {
 fn show_with(label: &[u8], job: Job, lent: usize, in_full: bool)
     requires { ⌜ lent ≤ 16 ⌝ }
 {
-    print::say(label);
-    let mut words = trials::marked();
-    let answer = trials::ask(job, &mut words[..lent]);
+    show_print::say(label);
+    let mut words = show_trials::marked();
+    let answer = show_trials::ask(job, &mut words[..lent]);
     match answer {
         PlanAnswer::Rounds(l) => {
             say_plan(job, &words, l);
@@ -150,32 +150,32 @@ fn rows() {
     let whole = Job::bare(17, 16, 1, 0x1_0000);
     show(
         b"16 steps in a row",
-        puzzles::stepped(whole, Puzzle::Row, 16),
+        show_puzzles::stepped(whole, Puzzle::Row, 16),
     );
     let more = Job::bare(18, 16, 1, 0x2_0000);
     show(
         b"17 steps in a row",
-        puzzles::stepped(more, Puzzle::Row, 17),
+        show_puzzles::stepped(more, Puzzle::Row, 17),
     );
 }
 
 fn towers() {
-    show(b"tower of 3 discs", puzzles::tower(3, 16));
-    show(b"tower of 4 discs", puzzles::tower(4, 16));
-    show(b"tower of 4 discs, horizon 14", puzzles::tower(4, 14));
-    show(b"tower of 5 discs", puzzles::tower(5, 16));
+    show(b"tower of 3 discs", show_puzzles::tower(3, 16));
+    show(b"tower of 4 discs", show_puzzles::tower(4, 16));
+    show(b"tower of 4 discs, horizon 14", show_puzzles::tower(4, 14));
+    show(b"tower of 5 discs", show_puzzles::tower(5, 16));
 }
 
 fn rings() {
-    show(b"4 rings, all off", puzzles::chinese(4, 0x55, 0xaa));
+    show(b"4 rings, all off", show_puzzles::chinese(4, 0x55, 0xaa));
     show(
         b"4 rings, only the last on",
-        puzzles::chinese(4, 0xaa, 0x6a),
+        show_puzzles::chinese(4, 0xaa, 0x6a),
     );
-    show(b"5 rings, all off", puzzles::chinese(5, 0x155, 0x2aa));
+    show(b"5 rings, all off", show_puzzles::chinese(5, 0x155, 0x2aa));
     show(
         b"16 rings, all off",
-        puzzles::chinese(16, 0x5555_5555, 0xaaaa_aaaa),
+        show_puzzles::chinese(16, 0x5555_5555, 0xaaaa_aaaa),
     );
 }
 
@@ -185,17 +185,17 @@ fn robots() {
     let on_six = Job::bare(30, 16, 0x3020_4081, 0x81_0204);
     show(
         b"4 robots, 2 places on",
-        puzzles::stepped(on_six, Puzzle::Robots, 24),
+        show_puzzles::stepped(on_six, Puzzle::Robots, 24),
     );
     let swap = Job::bare(30, 16, 0x3020_4081, 0x20_4042);
     show(
         b"4 robots, 2 of them change places",
-        puzzles::stepped(swap, Puzzle::Robots, 24),
+        show_puzzles::stepped(swap, Puzzle::Robots, 24),
     );
     let on_five = Job::bare(30, 16, 0x104_1041, 0x18_2082);
     show(
         b"5 robots on a full ring, 1 place on",
-        puzzles::stepped(on_five, Puzzle::Crowd, 25),
+        show_puzzles::stepped(on_five, Puzzle::Crowd, 25),
     );
 }
 
@@ -205,25 +205,25 @@ fn lamps() {
     let some = Job::bare(32, 16, 0xaaaa_aaaa, 0xaaaa_aaaa ^ 0xc0_30c3);
     show(
         b"16 lamps, 0 3 6 and 11 lit",
-        puzzles::stepped(some, Puzzle::Lamps, 32),
+        show_puzzles::stepped(some, Puzzle::Lamps, 32),
     );
     let odd = Job::bare(32, 16, 0xaaaa_aaaa, 0xaaaa_aaaa ^ 0x3_30c3);
     show(
         b"16 lamps, 0 3 6 and 8 lit",
-        puzzles::stepped(odd, Puzzle::Lamps, 32),
+        show_puzzles::stepped(odd, Puzzle::Lamps, 32),
     );
 }
 
 // Whether two rounds, or the first of them, are a plan: most of these are none.
 fn judge(label: &[u8], job: Job, first: u32, second: u32, l: usize) {
-    let mut words = trials::marked();
+    let mut words = show_trials::marked();
     words[0] = first;
     words[1] = second;
-    print::say(label);
+    show_print::say(label);
     if rounds::plan_holds(job, &words, l) {
-        print::say(b": plan holds\n");
+        show_print::say(b": plan holds\n");
     } else {
-        print::say(b": plan fails\n");
+        show_print::say(b": plan fails\n");
     }
 }
 

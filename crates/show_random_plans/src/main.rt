@@ -4,10 +4,10 @@ ghost use Prim.Native.Nat.{_<_};
 use calls::PlanAnswer;
 use reading::Refusal;
 use sets::word;
-use trials::Job;
-use trials::Step;
-use trials::draw;
-use trials::rounds;
+use show_trials::Job;
+use show_trials::Step;
+use show_trials::draw;
+use show_trials::rounds;
 
 // A step, and where the generator is after it.
 struct DrawnStep {
@@ -89,32 +89,32 @@ fn add(tally: &mut [u64; 7], count: usize) {
 }
 
 fn say_kept(words: &[u32; 16], from: usize) {
-    if !trials::kept(words, from) {
-        print::say(b" changes other words");
+    if !show_trials::kept(words, from) {
+        show_print::say(b" changes other words");
     }
-    print::say(b"\n");
+    show_print::say(b"\n");
 }
 
 fn say_plan(job: Job, words: &[u32; 16], l: usize) {
-    print::say_number(b": ", l as u64);
+    show_print::say_number(b": ", l as u64);
     if rounds::plan_holds(job, words, l) {
-        print::say(b" holds");
+        show_print::say(b" holds");
     } else {
-        print::say(b" fails");
+        show_print::say(b" fails");
     }
     say_kept(words, l);
 }
 
 fn say_refusal(refusal: Refusal, words: &[u32; 16]) {
     let reason = refusal.reason;
-    print::say_number(b": ", reading::number(reason) as u64);
+    show_print::say_number(b": ", reading::number(reason) as u64);
     say_kept(words, 0);
 }
 
 fn show(number: usize, job: Job, tally: &mut [u64; 7]) {
-    print::say_number(b"", number as u64);
-    let mut words = trials::marked();
-    let answer = trials::ask(job, &mut words);
+    show_print::say_number(b"", number as u64);
+    let mut words = show_trials::marked();
+    let answer = show_trials::ask(job, &mut words);
     match answer {
         PlanAnswer::Rounds(l) => {
             say_plan(job, &words, l);
@@ -128,14 +128,14 @@ fn show(number: usize, job: Job, tally: &mut [u64; 7]) {
 }
 
 fn totals(tally: &[u64; 7]) {
-    print::say(b"rounds 0 to 5:");
+    show_print::say(b"rounds 0 to 5:");
     let mut count: usize = 0;
     while count < 6 {
-        print::say_number(b" ", tally[count]);
+        show_print::say_number(b" ", tally[count]);
         count += 1;
     }
-    print::say_number(b", refused: ", tally[6]);
-    print::say(b"\n");
+    show_print::say_number(b", refused: ", tally[6]);
+    show_print::say(b"\n");
 }
 
 fn main() {

@@ -5,9 +5,9 @@ use sets::word;
 
 // A set as its number and its count.
 fn show(s: ArticleSet) {
-    print::say_number(b" ", s.bits);
-    print::say(b" count");
-    print::say_number(b" ", s.count() as u64);
+    show_print::say_number(b" ", s.bits);
+    show_print::say(b" count");
+    show_print::say_number(b" ", s.count() as u64);
 }
 
 // Every article that there is room for, taken one after the other.
@@ -24,27 +24,27 @@ fn filled() -> ArticleSet {
 // What a set does with a number: whether it is a member, what is there after taking it, after
 // taking it again, and after giving it up.
 fn edge(s: ArticleSet, article: usize) {
-    print::say(b"  article");
-    print::say_number(b" ", article as u64);
+    show_print::say(b"  article");
+    show_print::say_number(b" ", article as u64);
     if s.contains(article) {
-        print::say(b" in");
+        show_print::say(b" in");
     } else {
-        print::say(b" out");
+        show_print::say(b" out");
     }
-    print::say(b", with:");
+    show_print::say(b", with:");
     show(s.with(article));
-    print::say(b", again:");
+    show_print::say(b", again:");
     show(s.with(article).with(article));
-    print::say(b", without:");
+    show_print::say(b", without:");
     show(s.without(article));
-    print::say(b"\n");
+    show_print::say(b"\n");
 }
 
 fn edges(name: &[u8], s: ArticleSet) {
-    print::say(name);
-    print::say(b":");
+    show_print::say(name);
+    show_print::say(b":");
     show(s);
-    print::say(b"\n");
+    show_print::say(b"\n");
     edge(s, 0);
     edge(s, 63);
     edge(s, 64);
@@ -53,25 +53,25 @@ fn edges(name: &[u8], s: ArticleSet) {
 }
 
 fn members(s: u64) {
-    print::say_number(b"members of ", s);
-    print::say(b":");
-    print::members(s);
-    print::say(b"\n");
+    show_print::say_number(b"members of ", s);
+    show_print::say(b":");
+    show_print::members(s);
+    show_print::say(b"\n");
 }
 
 // What the members of a word have together.
 fn gathered(table: &[u64; 64], s: u64) {
-    print::say(b"gathered from");
-    print::say_number(b" ", s);
-    print::say(b":");
-    print::say_number(b" ", word::gather(table, s));
-    print::say(b"\n");
+    show_print::say(b"gathered from");
+    show_print::say_number(b" ", s);
+    show_print::say(b":");
+    show_print::say_number(b" ", word::gather(table, s));
+    show_print::say(b"\n");
 }
 
 fn main() {
-    print::say(b"capacity");
-    print::say_number(b" ", ArticleSet::CAPACITY as u64);
-    print::say(b"\n");
+    show_print::say(b"capacity");
+    show_print::say_number(b" ", ArticleSet::CAPACITY as u64);
+    show_print::say(b"\n");
     edges(b"empty", ArticleSet::empty());
     edges(b"full", filled());
     members(0);

@@ -4,9 +4,9 @@ use mathlib.Core.Path.{ap}
 use native.Mathlib.Omega.{arith}
 use denote.Ref.{now}
 use lib.ListN.{length}
-use Rattle.layering.specs.Drawn.{fittingIn}
+use Rattle.layers.specs.Drawn.{fittingIn}
 use Rattle.expansion.proofs.ReadLaws.{sized-read}
-use Rattle.lending.proofs.TestLaws.{layer-passed}
+use Rattle.arguments.proofs.TestLaws.{layer-passed}
 use Rattle.calls.proofs.CallLaws.{fitting-job}
 use Rattle.calls.proofs.FittingLaws.{facts-fit, words-fit, facts-down, facts-stopped, facts-made}
 use Rattle.calls.proofs.fact_layer.Statement.{statement}

@@ -3,8 +3,8 @@ use borrow.Author.Needs.{needs}
 use mathlib.Core.Path.{ap, sym, _∙_}
 use native.Mathlib.Omega.{arith}
 use Rattle.reading.specs.declared.Reason.the-variants.{NameNotFound}
-use Rattle.matching.specs.Names.{placeOf}
-use Rattle.lending.specs.Answers.{found, said, refusalSaid}
+use Rattle.names.specs.Names.{placeOf}
+use Rattle.arguments.specs.Answers.{found, said, refusalSaid}
 use Rattle.calls.proofs.ToldLaws.{seen, found-said}
 use Rattle.calls.proofs.found.Statement.{statement}
 use Rattle.calls.proofs.found.Tie as tie

@@ -5,7 +5,7 @@ use Prim.Native.Nat.{_≤_}
 use native.Mathlib.Omega.{arith}
 use denote.Ref.{now}
 use lib.ListN.{length}
-use Rattle.lending.proofs.TestLaws.{room-passed}
+use Rattle.arguments.proofs.TestLaws.{room-passed}
 use Rattle.calls.proofs.CallLaws.{choice-read}
 use Rattle.calls.proofs.ChoiceLaws.{partition-down, partition-short, partition-made}
 use Rattle.calls.proofs.partition.Statement.{statement}

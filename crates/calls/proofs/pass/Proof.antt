@@ -5,8 +5,8 @@ use native.Mathlib.Omega.{arith}
 use denote.Ref.{now}
 use lib.ListN.{getD}
 use Rattle.network.proofs.GroupLaws.{lent-right}
-use Rattle.lending.specs.Tests.{networkIn}
-use Rattle.lending.proofs.TestLaws.{groups-passed}
+use Rattle.arguments.specs.Tests.{networkIn}
+use Rattle.arguments.proofs.TestLaws.{groups-passed}
 use Rattle.calls.proofs.CallLaws.{choice-read}
 use Rattle.calls.proofs.ChoiceLaws.{pass-down, pass-groups, pass-goal, pass-made}
 use Rattle.calls.proofs.pass.Statement.{statement}

@@ -3,8 +3,8 @@ use borrow.Author.Needs.{needs}
 use mathlib.Core.Path.{refl, ap, sym, subst}
 use native.Mathlib.Omega.{arith}
 use denote.Ref.{now}
-use Rattle.lending.specs.Answers.{refusalSaid}
-use Rattle.lending.proofs.TestLaws.{room-passed}
+use Rattle.arguments.specs.Answers.{refusalSaid}
+use Rattle.arguments.proofs.TestLaws.{room-passed}
 use Rattle.expansion.proofs.ReadLaws.{sized-read}
 use Rattle.calls.proofs.CallLaws.{fitting-job}
 use Rattle.calls.proofs.ToldLaws.{seen}

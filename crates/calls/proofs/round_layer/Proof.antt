@@ -5,7 +5,7 @@ use native.Mathlib.Omega.{arith}
 use denote.Ref.{now}
 use lib.ListN.{length}
 use Rattle.expansion.proofs.ReadLaws.{sized-read}
-use Rattle.lending.proofs.TestLaws.{layer-passed}
+use Rattle.arguments.proofs.TestLaws.{layer-passed}
 use Rattle.calls.proofs.CallLaws.{fitting-job}
 use Rattle.calls.proofs.FittingLaws.{vertices-down, vertices-stopped, vertices-made}
 use Rattle.calls.proofs.round_layer.Statement.{statement}

@@ -2,7 +2,7 @@
 use borrow.Author.Needs.{needs}
 use mathlib.Core.Path.{ap, sym, _∙_}
 use native.Mathlib.Omega.{arith}
-use Rattle.lending.specs.Answers.{said, refusalSaid}
+use Rattle.arguments.specs.Answers.{said, refusalSaid}
 use Rattle.calls.specs.Choose.{searched}
 use Rattle.calls.proofs.ToldLaws.{seen, chosen-said}
 use Rattle.calls.proofs.searched.Statement.{statement}

@@ -3,9 +3,9 @@ use borrow.Author.Needs.{needs}
 use mathlib.Core.Path.{_≡_, ap, _∙_}
 use Prim.Native.Nat.{ℕ, _-_, _≤_}
 use native.Mathlib.Omega.{arith}
-use Rattle.graph.specs.Layers.{factLayer}
-use Rattle.layering.specs.Drawn.{layer, roomy, fittingIn}
-use Rattle.layering.proofs.LayerCode.{vertices-drawn, needs-fit, layer-start, layer-round, layer-facts}
+use Rattle.planning.specs.Layers.{factLayer}
+use Rattle.layers.specs.Drawn.{layer, roomy, fittingIn}
+use Rattle.layers.proofs.LayerCode.{vertices-drawn, needs-fit, layer-start, layer-round, layer-facts}
 use Rattle.expansion.proofs.fact_layer.Statement.{statement}
 use Rattle.expansion.proofs.fact_layer.Tie as tie
 

@@ -1,8 +1,8 @@
 -- `expansion::round_layer` meets its contract.
 use borrow.Author.Needs.{needs}
 use Prim.Native.Nat.{_-_}
-use Rattle.layering.specs.Drawn.{fittingIn}
-use Rattle.layering.proofs.LayerCode.{vertices-drawn, needs-fit, layer-round}
+use Rattle.layers.specs.Drawn.{fittingIn}
+use Rattle.layers.proofs.LayerCode.{vertices-drawn, needs-fit, layer-round}
 use Rattle.expansion.proofs.round_layer.Statement.{statement}
 use Rattle.expansion.proofs.round_layer.Tie as tie
 

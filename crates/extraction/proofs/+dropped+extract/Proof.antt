@@ -15,8 +15,8 @@ use Rattle.sets.specs.Sets.{_∈_, _⊆_}
 use Rattle.sets.proofs.Bits.{bit-empty, bit-without, part-refl, part-in, part-le, less-lt}
 use Rattle.network.specs.Network.{listed}
 use Rattle.choice.specs.Choice.{Cover}
-use Rattle.questions.specs.Questions.{rowOf}
-use Rattle.questions.proofs.LayerLaws.{lowest-one, asked-none}
+use Rattle.supports.specs.Questions.{rowOf}
+use Rattle.supports.proofs.LayerLaws.{lowest-one, asked-none}
 use Rattle.extraction.specs.Extraction.{Graph, graph, Back, Held, Nogoods, Noted, Extracted}
 use Rattle.extraction.proofs.NogoodLaws.{noted-refutes}
 use Rattle.extraction.proofs.ExtractLaws.{asked-set, held-more, bottom-held, bottom-lacks, blocked-refuses, refuses-blocked, known-refuses, open-picks, open-needs, leaf, Turning, turning-start, turning-more, turning-last, layer-asked, entry-asked, refuses-whole, stored-refused}
@@ -35,9 +35,9 @@ use Rattle.extraction.proofs.nogoods.stored.Reads as stored-reads
 use Rattle.extraction.proofs.steps_of.Reads as steps-of-reads
 use Rattle.extraction.proofs.trials.Reads as trials-reads
 use Rattle.extraction.proofs.whole.Reads as whole-reads
-use Rattle.questions.proofs.ask.Reads as ask-reads
-use Rattle.questions.proofs.explain.Reads as explain-reads
-use Rattle.questions.proofs.open_to.Reads as open-to-reads
+use Rattle.supports.proofs.ask.Reads as ask-reads
+use Rattle.supports.proofs.explain.Reads as explain-reads
+use Rattle.supports.proofs.open_to.Reads as open-to-reads
 use Rattle.sets.proofs.word.gather.Reads as gather-reads
 use Rattle.sets.proofs.word.less.Reads as less-reads
 use Rattle.sets.proofs.word.lowest.Reads as lowest-reads

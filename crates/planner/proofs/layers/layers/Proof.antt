@@ -3,9 +3,9 @@ use borrow.Author.Needs.{needs}
 use mathlib.Core.Path.{_≡_}
 use Prim.Native.Nat.{_-_, _≤_}
 use native.Mathlib.Omega.{arith}
-use Rattle.graph.specs.Layers.{factLayer}
-use Rattle.layering.specs.Drawn.{layer, roomy, fittingIn}
-use Rattle.layering.proofs.LayerCode.{vertices-drawn, needs-fit, layer-start, layer-round, layer-facts}
+use Rattle.planning.specs.Layers.{factLayer}
+use Rattle.layers.specs.Drawn.{layer, roomy, fittingIn}
+use Rattle.layers.proofs.LayerCode.{vertices-drawn, needs-fit, layer-start, layer-round, layer-facts}
 use Rattle.planner.specs.Tabulated.{Laid}
 use Rattle.planner.proofs.LaidLaws.{laid-none, laid-turn, laid-end}
 use Rattle.planner.proofs.layers.layers.Statement.{statement}

@@ -6,8 +6,8 @@ use Prim.Native.Nat.{ℕ, _+_, _-_, _≤_, _<_}
 use native.Mathlib.Omega.{arith}
 use lib.ListN.{length, drop}
 use Rattle.sets.proofs.Bits.{bit-empty, part-refl}
-use Rattle.layering.specs.Drawn.{fittingIn}
-use Rattle.states.specs.States.{Hopeless}
+use Rattle.layers.specs.Drawn.{fittingIn}
+use Rattle.reachability.specs.States.{Hopeless}
 use Rattle.extraction.specs.Extraction.{graph, Back, Nogoods, Extracted}
 use Rattle.extraction.proofs.NogoodLaws.{empty-nogoods}
 use Rattle.planner.specs.declared.Planned.the-variants as Planned

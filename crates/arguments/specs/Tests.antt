@@ -1,0 +1,45 @@
+-- The tests of what a caller lends, in the order of the reasons' numbers (docs/RULES.md, "Reasons to turn a call down", 9 to 13).
+use mathlib.Core.Bool.{_||_}
+use mathlib.Core.List.{List}
+use Prim.Native.Nat.{ℕ}
+use lib.Dec.{ltb}
+use lib.ListN.{length, getD}
+use Rattle.reading.specs.declared.Reason.the-variants.{OutOfRange, ShortBuffer, FalsePartition, LiveOutsideFile, BadGoal}
+use Rattle.jobfile.specs.declared.Verdict.{Verdict}
+use Rattle.jobfile.specs.declared.Verdict.the-variants as Verdict
+use Rattle.jobfile.specs.declared.ReadChoice.{ReadChoice}
+use Rattle.network.specs.Network.{Network, listed}
+use Rattle.network.specs.Groups.{firstMisplaced}
+use Rattle.network.specs.Filter.{outside, badGoal, firstBad}
+use Rattle.arguments.specs.Answers.{Answer, refusal, value, unless, unlessAt, passed}
+
+-- 10: a buffer of this length has so many elements at least
+abbrev pub roomTest : ℕ → ℕ → Answer (Unit {0})
+roomTest len size = unless (ltb len size) ShortBuffer passed
+
+-- 9 and 10: a layer's number is in its range, and the buffer has room for its words
+abbrev pub layerTest : ℕ → ℕ → ℕ → ℕ → ℕ → Answer (Unit {0})
+layerTest k lowest highest len size = unless (ltb k lowest || ltb highest k) OutOfRange (unless (ltb len size) ShortBuffer passed)
+
+-- 10 and 11: the groups that are lent have a byte an article, and are a partition
+abbrev pub groupsTest : Network → List ℕ → Answer (Unit {0})
+groupsTest N groups = unless (ltb (length groups) (N .articles)) ShortBuffer (unlessAt (firstMisplaced N (λ u. getD groups u 0)) FalsePartition passed)
+
+-- 12 and 13: the live set is of the file's articles, and one goal is in order
+abbrev pub passTest : ℕ → ℕ → ℕ → ℕ → Answer (Unit {0})
+passTest articles order live goal = unless (outside articles live) LiveOutsideFile (unless (badGoal order goal) BadGoal passed)
+
+-- 13: every goal of a list is in order
+abbrev pub goalsTest : ℕ → List ℕ → Answer (Unit {0})
+goalsTest order goals = unlessAt (firstBad order goals) BadGoal passed
+
+-- ---- what the code's types mean
+
+-- the code's verdict on tests
+abbrev pub verdictOf : Answer (Unit {0}) → Verdict
+verdictOf (refusal reason place) = Verdict.Refused (record { reason = reason; place = place })
+verdictOf (value x) = Verdict.Accepted
+
+-- the network of a choice file as read
+abbrev pub networkIn : ReadChoice → Network
+networkIn job = listed (job .articles) (job .wishes) (job .clashes)

@@ -1,0 +1,72 @@
+// One layer of the planning graph from the one below it, on words of 64 bits. Facts are bits 0 to 31. Of
+// the vertices, bit t is the keeper of fact t, and bit 32 + a is step a.
+ghost use mathlib.Core.Path.{_≡_};
+ghost use mathlib.Core.Bool.{true, false};
+ghost use mathlib.Core.List.{[]};
+ghost use Prim.Native.Nat.{ℕ, _+_, _^_, _≤_, _<_};
+ghost use lib.ListN.{getD};
+ghost use Rattle.sets.specs.Ranges.{listTo};
+ghost use Rattle.planning.specs.Rounds.{listedSteps};
+ghost use Rattle.planning.specs.Layers.{roundOver, factsOver};
+ghost use Rattle.layers.specs.Drawn.{layer, roomy, vertexWords};
+
+mod facts;
+mod rounds;
+mod vertices;
+
+use sets::word;
+
+// The members of a layer, and for each of them those that it is mutex with.
+pub struct Layer {
+    pub members: u64,
+    pub words: [u64; 64],
+}
+
+// What vertices need or give, from what steps do: a keeper has its own fact.
+pub fn with_keepers(steps: &[u64; 64]) -> [u64; 64]
+    ensures { λ r. ⌜ r ≡ listTo 64 (vertexWords 32 true (now (steps .entry))) ⌝ }
+{
+    vertices::table(steps, true)
+}
+
+// What vertices take, from what steps do: a keeper takes nothing.
+pub fn without_keepers(steps: &[u64; 64]) -> [u64; 64]
+    ensures { λ r. ⌜ r ≡ listTo 64 (vertexWords 32 false (now (steps .entry))) ⌝ }
+{
+    vertices::table(steps, false)
+}
+
+// The round layer over a fact layer.
+pub fn round_over(
+    needs: &[u64; 64],
+    gives: &[u64; 64],
+    takes: &[u64; 64],
+    count: usize,
+    below: Layer,
+) -> Layer
+    requires { ⌜ count ≤ 32 ⌝ }
+    requires { ⌜ ((v : ℕ) → v < 64 → getD (now needs) v 0 < 2 ^ 32) ⌝ }
+    ensures { λ r. ⌜ layer (r .members) (r .words) ≡ roundOver 32 (listedSteps (now (needs .entry)) (now (gives .entry)) (now (takes .entry))) (32 + count) (layer (below .members) (below .words)) ⌝ }
+{
+    let words = below.words;
+    let members = rounds::standing(needs, count, below.members, &words);
+    let mutex = rounds::words(needs, gives, takes, &words, members);
+    Layer {
+        members: members,
+        words: mutex,
+    }
+}
+
+// The fact layer over a round layer.
+pub fn facts_over(gives: &[u64; 64], below: Layer) -> Layer
+    ensures { λ r. ⌜ layer (r .members) (r .words) ≡ roomy 64 (factsOver 32 (listedSteps [] (now (gives .entry)) []) (layer (below .members) (below .words))) ⌝ }
+{
+    let words = below.words;
+    let members = word::gather(gives, below.members);
+    let turned = tables::transposed(gives);
+    let mutex = facts::words(gives, &turned, &words, below.members, members);
+    Layer {
+        members: members,
+        words: mutex,
+    }
+}

@@ -1,0 +1,52 @@
+// Names of a file that was read.
+ghost use mathlib.Core.Path.{_≡_};
+ghost use Prim.Native.Nat.{_+_, _≤_};
+ghost use lib.ListN.{length, getD, take, drop};
+ghost use Rattle.jobfile.specs.Answers.{Within};
+ghost use Rattle.names.specs.Same.{sameName};
+ghost use Rattle.names.specs.Names.{lowestNamed, placeOf};
+
+// The number of an article or step, or that none has the name.
+pub enum Named {
+    At(usize),
+    Nowhere,
+}
+
+// Whether two names are equal.
+pub fn same_name(a: &[u8], b: &[u8]) -> bool
+    ensures { λ r. ⌜ r ≡ sameName (now (a .entry)) (now (b .entry)) ⌝ }
+{
+    let n = a.len();
+    if n != b.len() {
+        return false;
+    }
+    let mut i: usize = 0;
+    while i < n {
+        if a[i] != b[i] {
+            return false;
+        }
+        i += 1;
+    }
+    true
+}
+
+// The lowest of the first n numbers with this name; an empty name is nobody's.
+pub fn search(file: &[u8], starts: [usize; 64], lens: [usize; 64], n: usize, name: &[u8]) -> Named
+    requires { ⌜ (n ≤ 64) × Within (length (now file)) starts lens ⌝ }
+    ensures { λ r. ⌜ placeOf r ≡ lowestNamed (now (name .entry)) n (λ i. take (getD lens i 0) (drop (getD starts i 0) (now (file .entry)))) ⌝ }
+{
+    if name.len() == 0 {
+        return Named::Nowhere;
+    }
+    let mut left = n;
+    while 0 < left {
+        let i = n - left;
+        let a = starts[i];
+        let e = a + lens[i];
+        if same_name(&file[a..e], name) {
+            return Named::At(i);
+        }
+        left -= 1;
+    }
+    Named::Nowhere
+}

@@ -1,0 +1,184 @@
+// What none of the states holds that steps lead to, no plan reaches. A state is a set of facts. The
+// states are listed one after the other, each with what its steps lead to, as long as there is room.
+ghost use mathlib.Core.Path.{_≡_};
+ghost use mathlib.Core.Logic.{_≢_};
+ghost use Prim.Native.Nat.{_≤_, _<_};
+ghost use lib.Bits.{bitOr};
+ghost use lib.ListN.{length};
+ghost use Rattle.sets.specs.Sets.{without};
+ghost use Rattle.planning.specs.Rounds.{listedSteps};
+ghost use Rattle.layers.specs.Drawn.{fittingIn};
+ghost use Rattle.reachability.specs.States.{Hopeless, Placed, Entered, Tried, Expanded};
+use jobfile::ReadFitting;
+use sets::word;
+
+// Where a state stands in the table of slots: it is listed, it may be entered at a slot, or there is no
+// free slot near by.
+enum Place {
+    Known,
+    Free(usize),
+    Crowded,
+}
+
+// The facts after a step.
+fn after(facts: u64, gives: u64, takes: u64) -> u64
+    ensures { λ r. ⌜ r ≡ bitOr (without facts takes) gives ⌝ }
+{
+    word::without(facts, takes) | gives
+}
+
+// The slot at which the search for a state begins.
+fn slot_of(state: u64) -> usize
+    ensures { λ r. ⌜ r < 32768 ⌝ }
+{
+    let mixed = (state % 0x1_0000_0000) * 0x9e37_79b1;
+    (mixed / 0x100_0000 % 32768) as usize
+}
+
+// The slot after this one, the first after the last.
+fn next_slot(at: usize) -> usize
+    requires { ⌜ at < 32768 ⌝ }
+    ensures { λ r. ⌜ r < 32768 ⌝ }
+{
+    if at == 32767 {
+        return 0;
+    }
+    at + 1
+}
+
+// A slot as an index.
+fn wide(x: u16) -> usize
+    ensures { λ r. ⌜ r ≡ x ⌝ }
+{
+    x as usize
+}
+
+// Looks at 16 slots. A slot has the number of a state, counted from 1, and 0 where it is free; what it
+// says is believed only where that state is the one looked for.
+fn place_of(states: &[u64], slots: &[u16], count: usize, state: u64) -> Place
+    requires { ⌜ (count ≤ length (now states)) × (length (now slots) ≡ 32768) ⌝ }
+    ensures { λ r. ⌜ Placed (now (states .entry)) (length (now (slots .entry))) count state r ⌝ }
+{
+    let mut at = slot_of(state);
+    let mut left: usize = 16;
+    while 0 < left {
+        let number = wide(slots[at]);
+        if number == 0 {
+            return Place::Free(at);
+        }
+        if number <= count {
+            if states[number - 1] == state {
+                return Place::Known;
+            }
+        }
+        at = next_slot(at);
+        left -= 1;
+    }
+    Place::Crowded
+}
+
+// Enters a state into the list unless it is there. The answer is how many there are now, and 0 where
+// there is no room.
+fn insert(states: &mut [u64], slots: &mut [u16], count: usize, state: u64) -> usize
+    requires { ⌜ (count ≤ length (now states)) × (length (now states) ≡ 8192) × (length (now slots) ≡ 32768) ⌝ }
+    ensures { λ r. ⌜ Entered (now (states .entry)) (now (states .exit)) count state r ⌝ }
+{
+    let place = place_of(states, slots, count, state);
+    match place {
+        Place::Known => count,
+        Place::Free(at) => {
+            if count == 8192 {
+                return 0;
+            }
+            states[count] = state;
+            slots[at] = (count + 1) as u16;
+            count + 1
+        }
+        Place::Crowded => 0,
+    }
+}
+
+// Enters what a step leads to, where all that it needs is there.
+fn try_step(
+    states: &mut [u64],
+    slots: &mut [u16],
+    count: usize,
+    facts: u64,
+    needs: u64,
+    gives: u64,
+    takes: u64,
+) -> usize
+    requires { ⌜ (count ≤ length (now states)) × (length (now states) ≡ 8192) × (length (now slots) ≡ 32768) ⌝ }
+    ensures { λ r. ⌜ Tried (now (states .entry)) (now (states .exit)) count facts needs gives takes r ⌝ }
+{
+    if word::without(needs, facts) != 0 {
+        return count;
+    }
+    insert(states, slots, count, after(facts, gives, takes))
+}
+
+// Enters all that steps lead to from state i.
+fn expand(
+    states: &mut [u64],
+    slots: &mut [u16],
+    count: usize,
+    i: usize,
+    needs: &[u64; 64],
+    gives: &[u64; 64],
+    takes: &[u64; 64],
+    steps: usize,
+) -> usize
+    requires { ⌜ (count ≤ length (now states)) × (length (now states) ≡ 8192) × (length (now slots) ≡ 32768) ⌝ }
+    requires { ⌜ (i < count) × (steps ≤ 64) ⌝ }
+    ensures { λ r. ⌜ Expanded (now (states .entry)) (now (states .exit)) count i (listedSteps (now (needs .entry)) (now (gives .entry)) (now (takes .entry))) steps r ⌝ }
+{
+    let facts = states[i];
+    let mut n = count;
+    let mut a: usize = 0;
+    while a < steps {
+        n = try_step(states, slots, n, facts, needs[a], gives[a], takes[a]);
+        if n == 0 {
+            return 0;
+        }
+        a += 1;
+    }
+    n
+}
+
+// Whether no plan of any length exists: the list of states has an end, and none of them has the goal.
+// `false` says nothing.
+pub fn hopeless(job: ReadFitting) -> bool
+    requires { ⌜ job .steps ≤ 64 ⌝ }
+    ensures { λ r. ⌜ Hopeless (fittingIn job) r ⌝ }
+{
+    let needs = job.needs;
+    let gives = job.gives;
+    let takes = job.takes;
+    let mut states: [u64; 8192] = [0; 8192];
+    let mut slots: [u16; 32768] = [0; 32768];
+    let mut count = insert(&mut states, &mut slots, 0, job.start);
+    if count == 0 {
+        return false;
+    }
+    let mut i: usize = 0;
+    while i < count {
+        if word::without(job.goal, states[i]) == 0 {
+            return false;
+        }
+        count = expand(
+            &mut states,
+            &mut slots,
+            count,
+            i,
+            &needs,
+            &gives,
+            &takes,
+            job.steps,
+        );
+        if count == 0 {
+            return false;
+        }
+        i += 1;
+    }
+    true
+}
