@@ -18,9 +18,9 @@ use Rattle.sets.proofs.Ranges.{num-either, false-num, num-false, same-yes, same
 use Rattle.sets.proofs.Bits.{bit-le, bit-cases, bit-empty, not-in, bit-one, only-one, in-part, part-in, part-full, member-yes, member-no, member-below, member-differs, full-below, bit-full, bit-without, without-le, without-in, in-without, more-same}
 use Rattle.sets.proofs.Made.{set-bit}
 use Rattle.jobfile.specs.Job.{Record, Job, column, size, order, wishes}
-use Rattle.network.specs.Network.{Network, networkOf, clash, Selection}
+use Rattle.network.specs.Network.{Network, networkOf, clash, Selection, Cover}
 use Rattle.network.proofs.NetworkLaws.{clash-turned}
-use Rattle.choice.specs.Choice.{Cover, selection}
+use Rattle.choice.specs.Choice.{selection}
 use Rattle.choice.specs.Search.{Beside}
 use Rattle.advice.specs.Advice.{Apart, emptied, barred, smallestOf, withFirst, wishless, emptiedFrom, emptiedJob, ordered, leftBy}
 use Rattle.choice.proofs.ChoiceLaws.{cover-selection, selection-cover, selection-right}

@@ -18,14 +18,15 @@ use Rattle.reading.specs.Got.{got}
 use Rattle.jobfile.specs.declared.Verdict.{Verdict}
 use Rattle.jobfile.specs.declared.Verdict.the-variants as Verdict
 use Rattle.jobfile.specs.Job.{Job, column, size, wishes, clashes}
-use Rattle.jobfile.specs.Answers.{choiceOf, Few}
+use Rattle.jobfile.specs.Meaning.{choiceRead, Few}
 use Rattle.jobfile.proofs.NamingLaws.{recordBy, jobBy}
 use Rattle.network.specs.Network.{Network, listed, networkOf}
 use Rattle.network.specs.Groups.{firstMisplaced}
-use Rattle.network.specs.Filter.{firstBad}
+use Rattle.filter.specs.Filter.{firstBad}
 use Rattle.network.proofs.ListedLaws.{padded-network}
 use Rattle.arguments.specs.Answers.{Answer, refusal, value, unless, unlessAt, passed, behind}
-use Rattle.arguments.specs.Tests.{roomTest, layerTest, groupsTest, goalsTest, verdictOf, networkIn}
+use Rattle.arguments.specs.Tests.{roomTest, layerTest, groupsTest, goalsTest}
+use Rattle.arguments.specs.Meaning.{verdictOf, networkIn}
 
 -- ---- what a call answers
 
@@ -72,7 +73,7 @@ goals-passed order goals h a = at-passed (firstBad order goals) BadGoal passed h
 -- ---- the network that the code has of a choice file
 
 -- it is that of the job: zeros behind the articles are not looked at, nor is what names are taken for
-pub network-same : (f : List ℕ) (job : Job Spot) (end : ℕ) → Few 64 (got job end) → networkIn (choiceOf (got job end)) ≡ networkOf (jobBy f job)
+pub network-same : (f : List ℕ) (job : Job Spot) (end : ℕ) → Few 64 (got job end) → networkIn (choiceRead (got job end)) ≡ networkOf (jobBy f job)
 network-same f job end few =
     let room : (k : ℕ) → length (column k (job .records)) ≤ 64 = λ k. omega (arith, length-map (job .records) (λ r. getD (r .before) k 0), few .0, few .1) in
     let same : (k : ℕ) → column k (jobBy f job .records) ≡ column k (job .records) = λ k. map-map (λ r. getD (r .before) k 0) (recordBy f) (job .records) in

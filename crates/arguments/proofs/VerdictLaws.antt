@@ -16,13 +16,13 @@ use Rattle.network.specs.declared.lent.Lent.{Lent}
 use Rattle.network.specs.declared.lent.Lent.the-variants as Lent
 use Rattle.network.specs.Network.{listed}
 use Rattle.network.specs.Groups.{firstMisplaced}
-use Rattle.network.specs.Filter.{firstBad}
-use Rattle.network.specs.Answers.{lentBy}
+use Rattle.filter.specs.Filter.{firstBad}
+use Rattle.network.specs.Meaning.{lentBy}
 use Rattle.network.proofs.ListedLaws.{misplaced-listed}
 use Rattle.filter.specs.declared.goals.Goals.{Goals}
 use Rattle.filter.specs.declared.goals.Goals.the-variants as Goals
-use Rattle.filter.specs.Answers.{goalsBy}
-use Rattle.arguments.specs.Tests.{networkIn}
+use Rattle.filter.specs.Meaning.{goalsBy}
+use Rattle.arguments.specs.Meaning.{networkIn}
 
 -- a refusal by its reason and its place
 abbrev pub refusalBy : Reason → ℕ → Refusal

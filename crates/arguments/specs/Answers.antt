@@ -38,9 +38,9 @@ behind (refusal reason place) answer = refusal reason place
 behind (value x) answer = answer
 
 -- what was found; the reason that there is none has place 0
-abbrev pub found : {A : Type 0} → Option A → Reason → Answer A
-found (some x) reason = value x
-found none reason = refusal reason 0
+abbrev pub foundOr : {A : Type 0} → Option A → Reason → Answer A
+foundOr (some x) reason = value x
+foundOr none reason = refusal reason 0
 
 -- ---- an answer in the words of the rules
 

@@ -5,13 +5,10 @@ use Prim.Native.Nat.{ℕ}
 use lib.Dec.{ltb}
 use lib.ListN.{length, getD}
 use Rattle.reading.specs.declared.Reason.the-variants.{OutOfRange, ShortBuffer, FalsePartition, LiveOutsideFile, BadGoal}
-use Rattle.jobfile.specs.declared.Verdict.{Verdict}
-use Rattle.jobfile.specs.declared.Verdict.the-variants as Verdict
-use Rattle.jobfile.specs.declared.ReadChoice.{ReadChoice}
-use Rattle.network.specs.Network.{Network, listed}
+use Rattle.network.specs.Network.{Network}
 use Rattle.network.specs.Groups.{firstMisplaced}
-use Rattle.network.specs.Filter.{outside, badGoal, firstBad}
-use Rattle.arguments.specs.Answers.{Answer, refusal, value, unless, unlessAt, passed}
+use Rattle.filter.specs.Filter.{outside, badGoal, firstBad}
+use Rattle.arguments.specs.Answers.{Answer, unless, unlessAt, passed}
 
 -- 10: a buffer of this length has so many elements at least
 abbrev pub roomTest : ℕ → ℕ → Answer (Unit {0})
@@ -32,14 +29,3 @@ passTest articles order live goal = unless (outside articles live) LiveOutsideFi
 -- 13: every goal of a list is in order
 abbrev pub goalsTest : ℕ → List ℕ → Answer (Unit {0})
 goalsTest order goals = unlessAt (firstBad order goals) BadGoal passed
-
--- ---- what the code's types mean
-
--- the code's verdict on tests
-abbrev pub verdictOf : Answer (Unit {0}) → Verdict
-verdictOf (refusal reason place) = Verdict.Refused (record { reason = reason; place = place })
-verdictOf (value x) = Verdict.Accepted
-
--- the network of a choice file as read
-abbrev pub networkIn : ReadChoice → Network
-networkIn job = listed (job .articles) (job .wishes) (job .clashes)

@@ -4,7 +4,8 @@ ghost use mathlib.Core.Path.{_≡_};
 ghost use mathlib.Core.Bool.{not, _||_};
 ghost use Prim.Native.Nat.{_≤_};
 ghost use lib.Dec.{ltb};
-ghost use Rattle.arguments.specs.Tests.{roomTest, layerTest, groupsTest, passTest, goalsTest, verdictOf, networkIn};
+ghost use Rattle.arguments.specs.Tests.{roomTest, layerTest, groupsTest, passTest, goalsTest};
+ghost use Rattle.arguments.specs.Meaning.{verdictOf, networkIn};
 
 pub mod written;
 
@@ -15,23 +16,13 @@ use jobfile::Verdict;
 use network::lent;
 use network::lent::Lent;
 use reading::Reason;
-use reading::Refusal;
-
-pub fn refusal_at(reason: Reason, place: usize) -> Refusal
-    ensures { λ r. ⌜ r ≡ record { reason = reason; place = place } ⌝ }
-{
-    Refusal {
-        reason: reason,
-        place: place,
-    }
-}
 
 // Whether a buffer of this length has so many elements at least.
 pub fn room(len: usize, size: usize) -> Verdict
     ensures { λ r. ⌜ r ≡ verdictOf (roomTest len size) ⌝ }
 {
     if len < size {
-        return Verdict::Refused(refusal_at(Reason::ShortBuffer, 0));
+        return Verdict::Refused(reading::refusal_at(Reason::ShortBuffer, 0));
     }
     Verdict::Accepted
 }
@@ -51,10 +42,10 @@ pub fn layer(k: usize, lowest: usize, highest: usize, len: usize, size: usize) -
     ensures { λ r. ⌜ r ≡ verdictOf (layerTest k lowest highest len size) ⌝ }
 {
     if !in_range(k, lowest, highest) {
-        return Verdict::Refused(refusal_at(Reason::OutOfRange, 0));
+        return Verdict::Refused(reading::refusal_at(Reason::OutOfRange, 0));
     }
     if len < size {
-        return Verdict::Refused(refusal_at(Reason::ShortBuffer, 0));
+        return Verdict::Refused(reading::refusal_at(Reason::ShortBuffer, 0));
     }
     Verdict::Accepted
 }
@@ -66,12 +57,12 @@ pub fn groups(job: ReadChoice, groups: &[u8]) -> Verdict
 {
     let n = job.articles;
     if groups.len() < n {
-        return Verdict::Refused(refusal_at(Reason::ShortBuffer, 0));
+        return Verdict::Refused(reading::refusal_at(Reason::ShortBuffer, 0));
     }
     let clashes = job.clashes;
     let partition = lent::first_misplaced(&clashes, groups, n);
     match partition {
-        Lent::Misplaced(u) => Verdict::Refused(refusal_at(Reason::FalsePartition, u)),
+        Lent::Misplaced(u) => Verdict::Refused(reading::refusal_at(Reason::FalsePartition, u)),
         Lent::Right => Verdict::Accepted,
     }
 }
@@ -81,10 +72,10 @@ pub fn live_and_goal(articles: usize, order: u64, live: u64, goal: u64) -> Verdi
     ensures { λ r. ⌜ r ≡ verdictOf (passTest articles order live goal) ⌝ }
 {
     if goals::outside(live, articles) {
-        return Verdict::Refused(refusal_at(Reason::LiveOutsideFile, 0));
+        return Verdict::Refused(reading::refusal_at(Reason::LiveOutsideFile, 0));
     }
     if goals::bad_goal(order, goal) {
-        return Verdict::Refused(refusal_at(Reason::BadGoal, 0));
+        return Verdict::Refused(reading::refusal_at(Reason::BadGoal, 0));
     }
     Verdict::Accepted
 }
@@ -95,7 +86,7 @@ pub fn goals(order: u64, goals: &[u64]) -> Verdict
 {
     let tested = goals::first_bad(order, goals);
     match tested {
-        Goals::Bad(i) => Verdict::Refused(refusal_at(Reason::BadGoal, i)),
+        Goals::Bad(i) => Verdict::Refused(reading::refusal_at(Reason::BadGoal, i)),
         Goals::Right => Verdict::Accepted,
     }
 }

@@ -16,16 +16,15 @@ use Rattle.jobfile.specs.declared.Verdict.the-variants as Verdict
 use Rattle.jobfile.specs.declared.ReadChoice.{ReadChoice}
 use Rattle.jobfile.specs.declared.ReadFitting.{ReadFitting}
 use Rattle.jobfile.specs.Job.{Job, order}
-use Rattle.jobfile.specs.Answers as Answers
-use Rattle.jobfile.specs.Answers.{choiceOf, Few, ChoiceBounds, FittingBounds}
+use Rattle.jobfile.specs.Meaning.{choiceRead, Few, ChoiceBounds, FittingBounds, fittingRead}
 use Rattle.jobfile.specs.Read.{read, readJob, choices, fittings}
 use Rattle.jobfile.proofs.NamingLaws.{mapGot, jobBy, read-same}
 use Rattle.network.specs.Network.{networkOf}
 use Rattle.planning.specs.Rounds.{fittingOf}
-use Rattle.layers.specs.Drawn.{fittingIn}
+use Rattle.layers.specs.Meaning.{fittingIn}
 use Rattle.expansion.proofs.ReadLaws.{fitting-read}
 use Rattle.arguments.specs.Answers.{Answer, refusal, onJob}
-use Rattle.arguments.specs.Tests.{networkIn}
+use Rattle.arguments.specs.Meaning.{networkIn}
 use Rattle.arguments.proofs.TestLaws.{network-same}
 
 -- ---- what a verdict tells of a reading
@@ -37,30 +36,30 @@ pub record Taken (g : Got (Job Spot)) : Type 0 where
   pub is : g ≡ got job end
 
 -- the verdict of a reading of either kind
-abbrev verdictOf : Got (Job Spot) → Verdict
-verdictOf (refused reason place) = Verdict.Refused (record { reason = reason; place = place })
-verdictOf (got job end) = Verdict.Accepted
+abbrev fileVerdict : Got (Job Spot) → Verdict
+fileVerdict (refused reason place) = Verdict.Refused (record { reason = reason; place = place })
+fileVerdict (got job end) = Verdict.Accepted
 
-choice-verdict : (g : Got (Job Spot)) → choiceOf g .verdict ≡ verdictOf g
+choice-verdict : (g : Got (Job Spot)) → choiceRead g .verdict ≡ fileVerdict g
 choice-verdict (refused reason place) = refl
 choice-verdict (got job end) = refl
 
-fitting-verdict : (g : Got (Job Spot)) → Answers.fittingOf g .verdict ≡ verdictOf g
+fitting-verdict : (g : Got (Job Spot)) → fittingRead g .verdict ≡ fileVerdict g
 fitting-verdict (refused reason place) = refl
 fitting-verdict (got job end) = refl
 
-taken : (g : Got (Job Spot)) → verdictOf g ≡ Verdict.Accepted → Taken g
+taken : (g : Got (Job Spot)) → fileVerdict g ≡ Verdict.Accepted → Taken g
 taken (refused reason place) e = let z : _≡_ {A = ℕ} 0 1 = cc in absurd (omega arith)
 taken (got job end) e = record { job = job; end = end; is = refl }
 
-down : (g : Got (Job Spot)) {r : Refusal} → verdictOf g ≡ Verdict.Refused r → g ≡ refused (r .reason) (r .place)
+down : (g : Got (Job Spot)) {r : Refusal} → fileVerdict g ≡ Verdict.Refused r → g ≡ refused (r .reason) (r .place)
 down (refused reason place) {r} e = let told : Refusal = record { reason = reason; place = place } in let p : told ≡ r = cc in ap (λ (x : Refusal). refused (x .reason) (x .place)) p
 down (got job end) e = let z : _≡_ {A = ℕ} 0 1 = cc in absurd (omega arith)
 
-pub choice-taken : (g : Got (Job Spot)) {v : Verdict} → v ≡ choiceOf g .verdict → v ≡ Verdict.Accepted → Taken g
+pub choice-taken : (g : Got (Job Spot)) {v : Verdict} → v ≡ choiceRead g .verdict → v ≡ Verdict.Accepted → Taken g
 choice-taken g p q = taken g (sym (choice-verdict g) ∙ sym p ∙ q)
 
-pub fitting-taken : (g : Got (Job Spot)) {v : Verdict} → v ≡ Answers.fittingOf g .verdict → v ≡ Verdict.Accepted → Taken g
+pub fitting-taken : (g : Got (Job Spot)) {v : Verdict} → v ≡ fittingRead g .verdict → v ≡ Verdict.Accepted → Taken g
 fitting-taken g p q = taken g (sym (fitting-verdict g) ∙ sym p ∙ q)
 
 -- ---- files that are refused
@@ -69,10 +68,10 @@ fitting-taken g p q = taken g (sym (fitting-verdict g) ∙ sym p ∙ q)
 refused-same : (f : List ℕ) (takes : ℕ → Bool) {r : Refusal} → read spots takes f ≡ refused (r .reason) (r .place) → readJob takes f ≡ refused (r .reason) (r .place)
 refused-same f takes e = read-same f takes ∙ ap (mapGot (jobBy f)) e
 
-pub choice-down : (f : List ℕ) {v : Verdict} {r : Refusal} → v ≡ choiceOf (read spots choices f) .verdict → v ≡ Verdict.Refused r → readJob choices f ≡ refused (r .reason) (r .place)
+pub choice-down : (f : List ℕ) {v : Verdict} {r : Refusal} → v ≡ choiceRead (read spots choices f) .verdict → v ≡ Verdict.Refused r → readJob choices f ≡ refused (r .reason) (r .place)
 choice-down f p q = refused-same f choices (down (read spots choices f) (sym (choice-verdict (read spots choices f)) ∙ sym p ∙ q))
 
-pub fitting-down : (f : List ℕ) {v : Verdict} {r : Refusal} → v ≡ Answers.fittingOf (read spots fittings f) .verdict → v ≡ Verdict.Refused r → readJob fittings f ≡ refused (r .reason) (r .place)
+pub fitting-down : (f : List ℕ) {v : Verdict} {r : Refusal} → v ≡ fittingRead (read spots fittings f) .verdict → v ≡ Verdict.Refused r → readJob fittings f ≡ refused (r .reason) (r .place)
 fitting-down f p q = refused-same f fittings (down (read spots fittings f) (sym (fitting-verdict (read spots fittings f)) ∙ sym p ∙ q))
 
 -- a reading as numbers: the number of the fault and its place, 0 where there is none; and 1 if the file is accepted
@@ -94,7 +93,7 @@ by-numbers (refused reason place) reason′ place′ fault at t = ap₂ refused 
 by-numbers (got job end) reason′ place′ fault at t = absurd (omega arith)
 
 -- the same where file g was read: its reading has the numbers of f
-pub choice-down-as : (f g : List ℕ) {v : Verdict} {r : Refusal} → v ≡ choiceOf (read spots choices g) .verdict → v ≡ Verdict.Refused r
+pub choice-down-as : (f g : List ℕ) {v : Verdict} {r : Refusal} → v ≡ choiceRead (read spots choices g) .verdict → v ≡ Verdict.Refused r
     → faultIn (read spots choices g) ≡ faultIn (read spots choices f) → placeIn (read spots choices g) ≡ placeIn (read spots choices f) → takenIn (read spots choices g) ≡ takenIn (read spots choices f)
     → readJob choices f ≡ refused (r .reason) (r .place)
 unfolding faultIn placeIn takenIn
@@ -120,10 +119,10 @@ pub record ChoiceRead (f : List ℕ) (r : ReadChoice) : Type 0 where
   pub network : networkIn r ≡ networkOf job
   pub wanted : r .order ≡ order job
 
-pub choice-read : (f : List ℕ) (r : ReadChoice) → r ≡ choiceOf (read spots choices f) → ChoiceBounds f r → r .verdict ≡ Verdict.Accepted → ChoiceRead f r
+pub choice-read : (f : List ℕ) (r : ReadChoice) → r ≡ choiceRead (read spots choices f) → ChoiceBounds f r → r .verdict ≡ Verdict.Accepted → ChoiceRead f r
 choice-read f r e bounds accepted =
     let t = choice-taken (read spots choices f) (ap (λ x. x .verdict) e) accepted in
-    let q : r ≡ choiceOf (got (t .job) (t .end)) = e ∙ ap choiceOf (t .is) in
+    let q : r ≡ choiceRead (got (t .job) (t .end)) = e ∙ ap choiceRead (t .is) in
     record {
       job = jobBy f (t .job);
       end = t .end;
@@ -139,7 +138,7 @@ pub record FittingRead (f : List ℕ) (r : ReadFitting) : Type 0 where
   pub is : readJob fittings f ≡ got job end
   pub fitting : fittingIn r ≡ fittingOf job
 
-pub fitting-job : (f : List ℕ) (r : ReadFitting) → r ≡ Answers.fittingOf (read spots fittings f) → FittingBounds f r → r .verdict ≡ Verdict.Accepted → FittingRead f r
+pub fitting-job : (f : List ℕ) (r : ReadFitting) → r ≡ fittingRead (read spots fittings f) → FittingBounds f r → r .verdict ≡ Verdict.Accepted → FittingRead f r
 fitting-job f r e bounds accepted =
     let t = fitting-taken (read spots fittings f) (ap (λ x. x .verdict) e) accepted in
     let q : readJob fittings f ≡ got (jobBy f (t .job)) (t .end) = read-same f fittings ∙ ap (mapGot (jobBy f)) (t .is) in

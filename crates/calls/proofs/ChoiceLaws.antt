@@ -9,18 +9,21 @@ use Rattle.reading.specs.Items.{spots}
 use Rattle.jobfile.specs.declared.Verdict.{Verdict}
 use Rattle.jobfile.specs.declared.Verdict.the-variants as Verdict
 use Rattle.jobfile.specs.declared.ReadChoice.{ReadChoice}
-use Rattle.jobfile.specs.Answers.{choiceOf}
+use Rattle.jobfile.specs.Meaning.{choiceRead}
 use Rattle.jobfile.specs.Read.{read, readJob, choices}
 use Rattle.network.specs.Network.{Network, listed}
 use Rattle.network.specs.Groups.{Partition, groupsTo}
-use Rattle.network.specs.Filter.{pass, setAside, GoalsWithin}
+use Rattle.filter.specs.Filter.{pass, setAside, GoalsWithin}
 use Rattle.network.proofs.GroupLaws.{groups-length, lent-right}
-use Rattle.network.proofs.GoalLaws.{goals-within}
-use Rattle.network.proofs.ListedLaws.{groups-listed, pass-listed}
+use Rattle.filter.proofs.GoalLaws.{goals-within}
+use Rattle.network.proofs.ListedLaws.{groups-listed}
+use Rattle.filter.proofs.WishLaws.{pass-listed}
 use Rattle.choice.specs.declared.Choice.{Choice}
-use Rattle.choice.specs.Choice.{selection, chosenBy, chosen}
+use Rattle.choice.specs.Choice.{selection, chosen}
+use Rattle.choice.specs.Meaning.{chosenBy}
 use Rattle.arguments.specs.Answers.{Answer, refusal, value, onJob, behind, Said, answered, said, refusalSaid, Left, leaving}
-use Rattle.arguments.specs.Tests.{roomTest, groupsTest, passTest, goalsTest, verdictOf, networkIn}
+use Rattle.arguments.specs.Tests.{roomTest, groupsTest, passTest, goalsTest}
+use Rattle.arguments.specs.Meaning.{verdictOf, networkIn}
 use Rattle.arguments.proofs.TestLaws.{stopped, through, groups-passed, goals-passed}
 use Rattle.calls.specs.Partition.{partitionIn, partitionOf}
 use Rattle.calls.specs.Pass.{passIn, passOf}
@@ -33,7 +36,7 @@ module _ (f old : List ℕ) where
   abbrev left : Answer (List ℕ) → Left (Unit {0})
   left a = leaving (λ groups. groups) (λ groups. tt) old a
 
-  pub partition-down : {v : Verdict} {x : Refusal} → v ≡ choiceOf (read spots choices f) .verdict → v ≡ Verdict.Refused x → record { answer = refusalSaid x; buffer = old } ≡ partitionOf f old
+  pub partition-down : {v : Verdict} {x : Refusal} → v ≡ choiceRead (read spots choices f) .verdict → v ≡ Verdict.Refused x → record { answer = refusalSaid x; buffer = old } ≡ partitionOf f old
   partition-down p q = ap left (job-down (λ job. partitionIn job old) (choice-down f p q))
 
   -- so many bytes were demanded
@@ -62,7 +65,7 @@ module _ (f old : List ℕ) where
 -- ---- the pass
 
 module _ (f groups : List ℕ) (live goal : ℕ) where
-  pub pass-down : {v : Verdict} {x : Refusal} → v ≡ choiceOf (read spots choices f) .verdict → v ≡ Verdict.Refused x → refusalSaid x ≡ said (passOf f groups live goal)
+  pub pass-down : {v : Verdict} {x : Refusal} → v ≡ choiceRead (read spots choices f) .verdict → v ≡ Verdict.Refused x → refusalSaid x ≡ said (passOf f groups live goal)
   pass-down p q = ap said (job-down (λ job. passIn job groups live goal) (choice-down f p q))
 
   module _ (r : ReadChoice) (R : ChoiceRead f r) {v : Verdict} (e : v ≡ verdictOf (groupsTest (networkIn r) groups)) where
@@ -101,7 +104,7 @@ searched-is none aside = refl
 searched-is (some x) aside = refl
 
 module _ (f groups goals : List ℕ) (floor : ℕ) where
-  pub choose-down : {v : Verdict} {x : Refusal} → v ≡ choiceOf (read spots choices f) .verdict → v ≡ Verdict.Refused x → refusalSaid x ≡ said (chooseOf f groups goals floor)
+  pub choose-down : {v : Verdict} {x : Refusal} → v ≡ choiceRead (read spots choices f) .verdict → v ≡ Verdict.Refused x → refusalSaid x ≡ said (chooseOf f groups goals floor)
   choose-down p q = ap said (job-down (λ job. chooseIn job groups goals floor) (choice-down f p q))
 
   module _ (r : ReadChoice) (R : ChoiceRead f r) {v : Verdict} (e : v ≡ verdictOf (groupsTest (networkIn r) groups)) where

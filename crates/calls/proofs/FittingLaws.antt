@@ -18,8 +18,7 @@ use Rattle.jobfile.specs.declared.Verdict.{Verdict}
 use Rattle.jobfile.specs.declared.Verdict.the-variants as Verdict
 use Rattle.jobfile.specs.declared.ReadFitting.{ReadFitting}
 use Rattle.jobfile.specs.Job.{Job}
-use Rattle.jobfile.specs.Answers as Answers
-use Rattle.jobfile.specs.Answers.{padded}
+use Rattle.jobfile.specs.Meaning.{padded, fittingRead}
 use Rattle.jobfile.specs.Read.{read, readJob, fittings}
 use Rattle.jobfile.proofs.ReadLaws.{padded-at}
 use Rattle.planning.specs.Rounds.{Fitting, fewest}
@@ -27,13 +26,14 @@ use Rattle.planning.specs.Layers.{Layer, vertices, factsOver, factLayer, roundO
 use Rattle.planning.specs.Back.{Sized}
 use Rattle.planning.proofs.WordLaws.{words-below}
 use Rattle.planning.proofs.LayerLaws.{facts-below}
-use Rattle.layers.specs.Drawn.{layer, roomy, fittingIn}
+use Rattle.layers.specs.Meaning.{layer, roomy, fittingIn}
 use Rattle.layers.proofs.LayerCode.{facts-length, rounds-length}
 use Rattle.planner.specs.declared.Planned.{Planned}
 use Rattle.planner.specs.declared.Planned.the-variants as Planned
 use Rattle.planner.specs.Planner.{plannedBy, Words}
-use Rattle.arguments.specs.Answers.{Answer, refusal, value, onJob, behind, found, Said, answered, said, refusalSaid, Left, leaving}
-use Rattle.arguments.specs.Tests.{roomTest, layerTest, verdictOf}
+use Rattle.arguments.specs.Answers.{Answer, refusal, value, onJob, behind, foundOr, Said, answered, said, refusalSaid, Left, leaving}
+use Rattle.arguments.specs.Tests.{roomTest, layerTest}
+use Rattle.arguments.specs.Meaning.{verdictOf}
 use Rattle.arguments.proofs.TestLaws.{stopped, through}
 use Rattle.calls.specs.Layers.{factLayerIn, factLayerOf, roundLayerIn, roundLayerOf}
 use Rattle.calls.specs.Plan.{planIn, planOf, WordsIn, Buffer}
@@ -75,10 +75,10 @@ abbrev left : List ℕ → Answer Layer → Left ℕ
 left old a = leaving (λ layer. layer .words) (λ layer. layer .members) old a
 
 module _ (f old : List ℕ) (k : ℕ) where
-  pub facts-down : {v : Verdict} {x : Refusal} → v ≡ Answers.fittingOf (read spots fittings f) .verdict → v ≡ Verdict.Refused x → record { answer = refusalSaid x; buffer = old } ≡ factLayerOf f k old
+  pub facts-down : {v : Verdict} {x : Refusal} → v ≡ fittingRead (read spots fittings f) .verdict → v ≡ Verdict.Refused x → record { answer = refusalSaid x; buffer = old } ≡ factLayerOf f k old
   facts-down p q = ap (left old) (job-down (λ job. factLayerIn job k old) (fitting-down f p q))
 
-  pub vertices-down : {v : Verdict} {x : Refusal} → v ≡ Answers.fittingOf (read spots fittings f) .verdict → v ≡ Verdict.Refused x → record { answer = refusalSaid x; buffer = old } ≡ roundLayerOf f k old
+  pub vertices-down : {v : Verdict} {x : Refusal} → v ≡ fittingRead (read spots fittings f) .verdict → v ≡ Verdict.Refused x → record { answer = refusalSaid x; buffer = old } ≡ roundLayerOf f k old
   vertices-down p q = ap (left old) (job-down (λ job. roundLayerIn job k old) (fitting-down f p q))
 
   module _ (r : ReadFitting) (R : FittingRead f r) where
@@ -135,7 +135,7 @@ module _ (f old new : List ℕ) where
   abbrev by : Said ℕ → Got (Job (List ℕ)) → Type 0
   by s g = (s ≡ said (onJob g (λ job. planIn job old))) × Buffer g old new (onJob g (λ job. planIn job old))
 
-  pub plan-down : {v : Verdict} {x : Refusal} → v ≡ Answers.fittingOf (read spots fittings f) .verdict → v ≡ Verdict.Refused x → new ≡ old → Promised (refusalSaid x)
+  pub plan-down : {v : Verdict} {x : Refusal} → v ≡ fittingRead (read spots fittings f) .verdict → v ≡ Verdict.Refused x → new ≡ old → Promised (refusalSaid x)
   plan-down {x = x} p q same = subst (by (refusalSaid x)) (sym (fitting-down f p q)) (refl, same)
 
   -- so many words were demanded
@@ -145,7 +145,7 @@ module _ (f old new : List ℕ) where
 
     -- over a fitting
     abbrev planOver : Fitting → Answer ℕ
-    planOver F = behind (roomTest (length old) (F .horizon)) (found (fewest F (F .horizon)) NoPlan)
+    planOver F = behind (roomTest (length old) (F .horizon)) (foundOr (fewest F (F .horizon)) NoPlan)
 
     abbrev Over : Answer ℕ → Fitting → Type 0
     Over a F = (a ≡ planOver F) × WordsIn F old new (planOver F)
@@ -158,16 +158,16 @@ module _ (f old new : List ℕ) where
     with-words k w = (k, subst (WordsIn (fittingIn r) old new) k w)
 
     pub plan-short : {x : Refusal} → v ≡ Verdict.Refused x → new ≡ old → Promised (refusalSaid x)
-    plan-short q same = on-file (with-words (stopped (roomTest (length old) (r .horizon)) (found (fewest (fittingIn r) (r .horizon)) NoPlan) e q) same)
+    plan-short q same = on-file (with-words (stopped (roomTest (length old) (r .horizon)) (foundOr (fewest (fittingIn r) (r .horizon)) NoPlan) e q) same)
 
     module _ (ok : v ≡ Verdict.Accepted) {m : Planned} (p : m ≡ plannedBy (fewest (fittingIn r) (r .horizon))) (words : Words (fittingIn r) old new m) where
-      tested : {a : Answer ℕ} → a ≡ found (fewest (fittingIn r) (r .horizon)) NoPlan → WordsIn (fittingIn r) old new a → Promised (said a)
-      tested k w = on-file (with-words (k ∙ through (roomTest (length old) (r .horizon)) (found (fewest (fittingIn r) (r .horizon)) NoPlan) e ok) w)
+      tested : {a : Answer ℕ} → a ≡ foundOr (fewest (fittingIn r) (r .horizon)) NoPlan → WordsIn (fittingIn r) old new a → Promised (said a)
+      tested k w = on-file (with-words (k ∙ through (roomTest (length old) (r .horizon)) (foundOr (fewest (fittingIn r) (r .horizon)) NoPlan) e ok) w)
 
       rounds-made : {k : ℕ} → m ≡ Planned.Rounds k → Promised (answered k)
       rounds-made {k} q = tested (go (fewest (fittingIn r) (r .horizon)) (sym p ∙ q)) (subst (Words (fittingIn r) old new) q words)
         where
-          go : (o : Option ℕ) → plannedBy o ≡ Planned.Rounds k → value k ≡ found o NoPlan
+          go : (o : Option ℕ) → plannedBy o ≡ Planned.Rounds k → value k ≡ foundOr o NoPlan
           go (some j) h = let s : j ≡ k = cc in sym (ap (λ (i : ℕ). value i) s)
           go none h = let z : _≡_ {A = ℕ} 0 1 = cc in absurd (omega arith)
 
@@ -177,6 +177,6 @@ module _ (f old new : List ℕ) where
       pub plan-none : m ≡ Planned.Nothing → Promised (said (refusal NoPlan 0))
       plan-none q = tested (go (fewest (fittingIn r) (r .horizon)) (sym p ∙ q)) (subst (Words (fittingIn r) old new) q words)
         where
-          go : (o : Option ℕ) → plannedBy o ≡ Planned.Nothing → refusal NoPlan 0 ≡ found o NoPlan
+          go : (o : Option ℕ) → plannedBy o ≡ Planned.Nothing → refusal NoPlan 0 ≡ foundOr o NoPlan
           go (some j) h = let z : _≡_ {A = ℕ} 0 1 = cc in absurd (omega arith)
           go none h = refl

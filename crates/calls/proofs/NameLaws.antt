@@ -19,15 +19,15 @@ use Rattle.jobfile.specs.declared.Verdict.the-variants as Verdict
 use Rattle.jobfile.specs.declared.ReadChoice.{ReadChoice}
 use Rattle.jobfile.specs.declared.ReadFitting.{ReadFitting}
 use Rattle.jobfile.specs.Job.{Job, column, size, order, wishes, clashes}
-use Rattle.jobfile.specs.Answers.{choiceOf, fittingOf, spotOf, spotIn, Few, ChoiceBounds, FittingBounds}
+use Rattle.jobfile.specs.Meaning.{choiceRead, fittingRead, spotOf, spotIn, Few, ChoiceBounds, FittingBounds}
 use Rattle.jobfile.specs.Read.{read, readJob, choices, fittings, either}
 use Rattle.jobfile.proofs.NamingLaws.{mapGot, bytesAt, recordBy, jobBy, names-same, read-same}
 use Rattle.jobfile.proofs.ReadLaws.{either-choice, either-fitting, choice-spot, fitting-spot}
 use Rattle.expansion.proofs.ReadLaws.{column-by, column-length}
-use Rattle.names.specs.Same.{sameList, alike}
-use Rattle.names.specs.Names.{lowestNamed}
+use Rattle.names.specs.Names.{sameList, lowestNamed}
+use Rattle.names.specs.Likeness.{alike}
 use Rattle.names.proofs.SameLaws.{padded-same, search-cong}
-use Rattle.arguments.specs.Answers.{Answer, value, onJob, found, Said, answered, said, refusalSaid}
+use Rattle.arguments.specs.Answers.{Answer, value, onJob, foundOr, Said, answered, said, refusalSaid}
 use Rattle.calls.specs.Find.{findIn, findOf}
 use Rattle.calls.specs.Compare.{compareOf}
 use Rattle.calls.proofs.CallLaws.{Taken, choice-taken, fitting-taken, choice-down, choice-down-as, fitting-down, job-down, faultIn, placeIn, takenIn}
@@ -48,43 +48,43 @@ of-choice : (f name : List ℕ) → eqb (getD f 0 0) 70 ≡ false → onJob (rea
 of-choice f name e = sym (ap (λ g. onJob g (λ job. findIn job name)) (read-same f either ∙ ap (mapGot (jobBy f)) (either-choice spots f e) ∙ sym (read-same f choices)))
 
 module _ (f name : List ℕ) {b : Bool} (kind : b ≡ eqb (getD f 0 0) 70) where
-  pub find-down-fitting : {v : Verdict} {x : Refusal} → b ≡ true → v ≡ fittingOf (read spots fittings f) .verdict → v ≡ Verdict.Refused x → refusalSaid x ≡ said (findOf f name)
+  pub find-down-fitting : {v : Verdict} {x : Refusal} → b ≡ true → v ≡ fittingRead (read spots fittings f) .verdict → v ≡ Verdict.Refused x → refusalSaid x ≡ said (findOf f name)
   find-down-fitting t p q = ap said (job-down (λ job. findIn job name) (fitting-down f p q) ∙ of-fitting f name (sym kind ∙ t))
 
-  pub find-down-choice : {v : Verdict} {x : Refusal} → b ≡ false → v ≡ choiceOf (read spots choices f) .verdict → v ≡ Verdict.Refused x → refusalSaid x ≡ said (findOf f name)
+  pub find-down-choice : {v : Verdict} {x : Refusal} → b ≡ false → v ≡ choiceRead (read spots choices f) .verdict → v ≡ Verdict.Refused x → refusalSaid x ≡ said (findOf f name)
   find-down-choice t p q = ap said (job-down (λ job. findIn job name) (choice-down f p q) ∙ of-choice f name (sym kind ∙ t))
 
 -- names by their spots in the file are those of the job
 search-is : (f name : List ℕ) (takes : ℕ → Bool) (t : Taken (read spots takes f)) (n : ℕ) (starts lens : List ℕ) → n ≡ size (t .job) → ((i : ℕ) → spotOf starts lens i ≡ spotIn (read spots takes f) i)
-    → found (lowestNamed name n (λ i. take (getD lens i 0) (drop (getD starts i 0) f))) NameNotFound ≡ onJob (readJob takes f) (λ job. findIn job name)
+    → foundOr (lowestNamed name n (λ i. take (getD lens i 0) (drop (getD starts i 0) f))) NameNotFound ≡ onJob (readJob takes f) (λ job. findIn job name)
 search-is f name takes t n starts lens en h =
-    ap (λ (o : Option ℕ). found o NameNotFound) (
+    ap (λ (o : Option ℕ). foundOr o NameNotFound) (
     ap (λ (k : ℕ). lowestNamed name k (λ i. take (getD lens i 0) (drop (getD starts i 0) f))) en
     ∙ search-cong name (size (t .job)) _ (λ i. getD (map (λ r. r .name) (map (recordBy f) (t .job .records))) i [])
     (λ i. ap (bytesAt f) (h i ∙ ap (λ x. spotIn x i) (t .is)) ∙ sym (names-same f (t .job .records) i))
     )
     ∙ sym (ap (λ g. onJob g (λ job. findIn job name)) (read-same f takes ∙ ap (mapGot (jobBy f)) (t .is)))
 
-module _ (f name : List ℕ) {b : Bool} (kind : b ≡ eqb (getD f 0 0) 70) {s : Said ℕ} {o : Option ℕ} (told : s ≡ said (found o NameNotFound)) where
+module _ (f name : List ℕ) {b : Bool} (kind : b ≡ eqb (getD f 0 0) 70) {s : Said ℕ} {o : Option ℕ} (told : s ≡ said (foundOr o NameNotFound)) where
   -- the search was over n names
-  pub find-fitting : {n : ℕ} (r : ReadFitting) → b ≡ true → r ≡ fittingOf (read spots fittings f) → FittingBounds f r → r .verdict ≡ Verdict.Accepted
+  pub find-fitting : {n : ℕ} (r : ReadFitting) → b ≡ true → r ≡ fittingRead (read spots fittings f) → FittingBounds f r → r .verdict ≡ Verdict.Accepted
       → o ≡ lowestNamed name n (λ i. take (getD (r .lens) i 0) (drop (getD (r .starts) i 0) f)) → n ≡ r .steps → s ≡ said (findOf f name)
   find-fitting {n} r c e bounds accepted p all =
       let g = read spots fittings f in
       let t = fitting-taken g (ap (λ x. x .verdict) e) accepted in
       told
-      ∙ ap said (ap (λ (o : Option ℕ). found o NameNotFound) p
-      ∙ search-is f name fittings t n (r .starts) (r .lens) (all ∙ ap (λ x. x .steps) e ∙ ap (λ x. fittingOf x .steps) (t .is)) (λ i. ap (λ x. spotOf (x .starts) (x .lens) i) e ∙ fitting-spot g (bounds .4) i)
+      ∙ ap said (ap (λ (o : Option ℕ). foundOr o NameNotFound) p
+      ∙ search-is f name fittings t n (r .starts) (r .lens) (all ∙ ap (λ x. x .steps) e ∙ ap (λ x. fittingRead x .steps) (t .is)) (λ i. ap (λ x. spotOf (x .starts) (x .lens) i) e ∙ fitting-spot g (bounds .4) i)
       ∙ of-fitting f name (sym kind ∙ c))
 
-  pub find-choice : {n : ℕ} (r : ReadChoice) → b ≡ false → r ≡ choiceOf (read spots choices f) → ChoiceBounds f r → r .verdict ≡ Verdict.Accepted
+  pub find-choice : {n : ℕ} (r : ReadChoice) → b ≡ false → r ≡ choiceRead (read spots choices f) → ChoiceBounds f r → r .verdict ≡ Verdict.Accepted
       → o ≡ lowestNamed name n (λ i. take (getD (r .lens) i 0) (drop (getD (r .starts) i 0) f)) → n ≡ r .articles → s ≡ said (findOf f name)
   find-choice {n} r c e bounds accepted p all =
       let g = read spots choices f in
       let t = choice-taken g (ap (λ x. x .verdict) e) accepted in
       told
-      ∙ ap said (ap (λ (o : Option ℕ). found o NameNotFound) p
-      ∙ search-is f name choices t n (r .starts) (r .lens) (all ∙ ap (λ x. x .articles) e ∙ ap (λ x. choiceOf x .articles) (t .is)) (λ i. ap (λ x. spotOf (x .starts) (x .lens) i) e ∙ choice-spot g (bounds .3) i)
+      ∙ ap said (ap (λ (o : Option ℕ). foundOr o NameNotFound) p
+      ∙ search-is f name choices t n (r .starts) (r .lens) (all ∙ ap (λ x. x .articles) e ∙ ap (λ x. choiceRead x .articles) (t .is)) (λ i. ap (λ x. spotOf (x .starts) (x .lens) i) e ∙ choice-spot g (bounds .3) i)
       ∙ of-choice f name (sym kind ∙ c))
 
 -- ---- comparing
@@ -96,10 +96,10 @@ alike-by f f′ a b = rw (column-by f 0 (a .records), column-by f 1 (a .records)
 abbrev byArrays : ReadChoice → ReadChoice → Bool
 byArrays a b = eqb (a .articles) (b .articles) && (eqb (a .«wish_count») (b .«wish_count») && (eqb (a .order) (b .order) && (sameList (a .wishes) (b .wishes) && sameList (a .clashes) (b .clashes))))
 
-alike-is : (a b : Job Spot) (m n : ℕ) → Few 64 (got a m) → Few 64 (got b n) → byArrays (choiceOf (got a m)) (choiceOf (got b n)) ≡ alike a b
+alike-is : (a b : Job Spot) (m n : ℕ) → Few 64 (got a m) → Few 64 (got b n) → byArrays (choiceRead (got a m)) (choiceRead (got b n)) ≡ alike a b
 alike-is a b m n fa fb = go (eqb (size a) (size b)) refl
   where
-    go : (t : Bool) → eqb (size a) (size b) ≡ t → byArrays (choiceOf (got a m)) (choiceOf (got b n)) ≡ alike a b
+    go : (t : Bool) → eqb (size a) (size b) ≡ t → byArrays (choiceRead (got a m)) (choiceRead (got b n)) ≡ alike a b
     go true e =
         let same = eqb-true (size a) (size b) e in
         let lengths : (k : ℕ) → length (column k (a .records)) ≡ length (column k (b .records)) = λ k. column-length k (a .records) ∙ fa .0 ∙ same ∙ sym (fb .0) ∙ sym (column-length k (b .records)) in
@@ -112,31 +112,31 @@ module _ (f s : List ℕ) where
   compared g h = onJob g (λ a. onJob h (λ b. value (alike a b)))
 
   -- g was read first, and its reading has the numbers of f
-  pub compare-first : (g : List ℕ) {v : Verdict} {x : Refusal} → v ≡ choiceOf (read spots choices g) .verdict → v ≡ Verdict.Refused x
+  pub compare-first : (g : List ℕ) {v : Verdict} {x : Refusal} → v ≡ choiceRead (read spots choices g) .verdict → v ≡ Verdict.Refused x
       → faultIn (read spots choices g) ≡ faultIn (read spots choices f) → placeIn (read spots choices g) ≡ placeIn (read spots choices f) → takenIn (read spots choices g) ≡ takenIn (read spots choices f)
       → refusalSaid x ≡ said (compareOf f s)
   compare-first g p q fault place t = ap said (job-down (λ a. onJob (readJob choices s) (λ b. value (alike a b))) (choice-down-as f g p q fault place t))
 
-  module _ (a : ReadChoice) (ea : a ≡ choiceOf (read spots choices f)) (ba : ChoiceBounds f a) (va : a .verdict ≡ Verdict.Accepted) where
+  module _ (a : ReadChoice) (ea : a ≡ choiceRead (read spots choices f)) (ba : ChoiceBounds f a) (va : a .verdict ≡ Verdict.Accepted) where
     first : Taken (read spots choices f)
     first = choice-taken (read spots choices f) (ap (λ x. x .verdict) ea) va
 
     is-first : readJob choices f ≡ got (jobBy f (first .job)) (first .end)
     is-first = read-same f choices ∙ ap (mapGot (jobBy f)) (first .is)
 
-    pub compare-second : {v : Verdict} {x : Refusal} → v ≡ choiceOf (read spots choices s) .verdict → v ≡ Verdict.Refused x → refusalSaid x ≡ said (compareOf f s)
+    pub compare-second : {v : Verdict} {x : Refusal} → v ≡ choiceRead (read spots choices s) .verdict → v ≡ Verdict.Refused x → refusalSaid x ≡ said (compareOf f s)
     compare-second p q = ap said (sym (ap₂ compared is-first (choice-down s p q)))
 
-    both-read : (b : ReadChoice) {r t : Bool} → b ≡ choiceOf (read spots choices s) → ChoiceBounds s b → b .verdict ≡ Verdict.Accepted → r ≡ byArrays a b → r ≡ t → answered t ≡ said (compareOf f s)
+    both-read : (b : ReadChoice) {r t : Bool} → b ≡ choiceRead (read spots choices s) → ChoiceBounds s b → b .verdict ≡ Verdict.Accepted → r ≡ byArrays a b → r ≡ t → answered t ≡ said (compareOf f s)
     both-read b eb bb vb e k =
         let second = choice-taken (read spots choices s) (ap (λ x. x .verdict) eb) vb in
         ap (λ (x : Bool). answered x) (
-        sym k ∙ e ∙ ap₂ byArrays (ea ∙ ap choiceOf (first .is)) (eb ∙ ap choiceOf (second .is))
+        sym k ∙ e ∙ ap₂ byArrays (ea ∙ ap choiceRead (first .is)) (eb ∙ ap choiceRead (second .is))
         ∙ alike-is (first .job) (second .job) (first .end) (second .end) (subst (Few 64) (first .is) (ba .3)) (subst (Few 64) (second .is) (bb .3)) ∙ sym (alike-by f s (first .job) (second .job))
         )
         ∙ ap said (sym (ap₂ compared is-first (read-same s choices ∙ ap (mapGot (jobBy s)) (second .is))))
 
     -- r is what the test of both said, and t what is told of it
-    pub compare-both : (b : ReadChoice) {r : Bool} (is : Bool) {t : Said Bool} → b ≡ choiceOf (read spots choices s) → ChoiceBounds s b → b .verdict ≡ Verdict.Accepted → r ≡ byArrays a b → r ≡ is
+    pub compare-both : (b : ReadChoice) {r : Bool} (is : Bool) {t : Said Bool} → b ≡ choiceRead (read spots choices s) → ChoiceBounds s b → b .verdict ≡ Verdict.Accepted → r ≡ byArrays a b → r ≡ is
         → values t ≡ 1 → tested t ≡ num is → t ≡ said (compareOf f s)
     compare-both b is {t} eb bb vb e k v told = test-said t is v told ∙ both-read b eb bb vb e k

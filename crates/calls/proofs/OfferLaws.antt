@@ -17,16 +17,17 @@ use Rattle.reading.specs.Items.{spots}
 use Rattle.jobfile.specs.declared.Verdict.{Verdict}
 use Rattle.jobfile.specs.declared.Verdict.the-variants as Verdict
 use Rattle.jobfile.specs.declared.ReadChoice.{ReadChoice}
-use Rattle.jobfile.specs.Answers.{choiceOf}
+use Rattle.jobfile.specs.Meaning.{choiceRead}
 use Rattle.jobfile.specs.Read.{read, choices}
 use Rattle.network.specs.Network.{Network}
 use Rattle.network.specs.Groups.{groupsTo, groupOf}
-use Rattle.network.specs.Filter.{setAside, badGoal, firstBad}
+use Rattle.filter.specs.Filter.{setAside, badGoal, firstBad}
 use Rattle.network.proofs.GroupLaws.{groups-length, groups-right, right-lent}
 use Rattle.choice.specs.declared.Choice.{Choice}
 use Rattle.choice.specs.Choice.{selection, soleGoal, offered}
 use Rattle.arguments.specs.Answers.{Answer, unless, unlessAt, behind, passed, said, refusalSaid}
-use Rattle.arguments.specs.Tests.{groupsTest, goalsTest, networkIn}
+use Rattle.arguments.specs.Tests.{groupsTest, goalsTest}
+use Rattle.arguments.specs.Meaning.{networkIn}
 use Rattle.calls.specs.Choose.{Chosen, chosenOr, searched}
 use Rattle.calls.specs.Offer.{offerIn, offerOf}
 use Rattle.calls.proofs.CallLaws.{choice-down, job-down, on-job, ChoiceRead}
@@ -70,7 +71,7 @@ own-passed N wanted =
 -- ---- a file
 
 module _ (f : List ℕ) where
-  pub offer-down : {v : Verdict} {x : Refusal} → v ≡ choiceOf (read spots choices f) .verdict → v ≡ Verdict.Refused x → refusalSaid x ≡ said (offerOf f)
+  pub offer-down : {v : Verdict} {x : Refusal} → v ≡ choiceRead (read spots choices f) .verdict → v ≡ Verdict.Refused x → refusalSaid x ≡ said (offerOf f)
   offer-down p q = ap said (job-down (λ job. offerIn job) (choice-down f p q))
 
   -- the choice was made for this order

@@ -6,10 +6,10 @@ use native.Mathlib.Omega.{arith}
 use Rattle.sets.specs.Ranges.{num}
 use Rattle.sets.proofs.Ranges.{true-num, false-num}
 use Rattle.reading.specs.declared.Reason.{Reason}
-use Rattle.arguments.specs.Answers.{found, Said, refusedBy, answered, said}
-use Rattle.names.specs.declared.names.Named.{Named}
-use Rattle.names.specs.declared.names.Named.the-variants as Named
-use Rattle.names.specs.Names.{placeOf}
+use Rattle.arguments.specs.Answers.{foundOr, Said, refusedBy, answered, said}
+use Rattle.names.specs.declared.Holder.{Holder}
+use Rattle.names.specs.declared.Holder.the-variants as Holder
+use Rattle.names.specs.Meaning.{holderOf}
 use Rattle.choice.specs.declared.Choice.{Choice}
 use Rattle.choice.specs.declared.Choice.the-variants as Choice
 use Rattle.calls.specs.Choose.{Chosen, searched}
@@ -58,8 +58,8 @@ test-said (refusedBy reason place) b v e = absurd (omega arith)
 test-said (answered a) b v e = ap (λ (x : Bool). answered x) (num-same a b e)
 
 -- what was found, and what the search chose
-pub found-said : (reason : Reason) {t : Said ℕ} {named : Named} {i : ℕ} → named ≡ Named.At i → values t ≡ 1 → number t ≡ i → t ≡ said (found (placeOf named) reason)
-found-said reason {t} e v n = number-said t v n ∙ sym (ap (λ x. said (found (placeOf x) reason)) e)
+pub found-said : (reason : Reason) {t : Said ℕ} {named : Holder} {i : ℕ} → named ≡ Holder.Number i → values t ≡ 1 → number t ≡ i → t ≡ said (foundOr (holderOf named) reason)
+found-said reason {t} e v n = number-said t v n ∙ sym (ap (λ x. said (foundOr (holderOf x) reason)) e)
 
 pub chosen-said : {t : Said Chosen} {chosen : Choice} {x aside : ℕ} → chosen ≡ Choice.Chosen x aside → values t ≡ 1 → selected t ≡ x → setBy t ≡ aside → t ≡ said (searched chosen)
 chosen-said {t} e v n h = choice-is t v n h ∙ sym (ap (λ c. said (searched c)) e)

@@ -7,7 +7,7 @@ use Rattle.reading.specs.declared.Reason.the-variants.{NoSelection}
 use Rattle.jobfile.specs.Job.{Job, order}
 use Rattle.jobfile.specs.Read.{readJob, choices}
 use Rattle.network.specs.Network.{networkOf}
-use Rattle.network.specs.Filter.{setAside}
+use Rattle.filter.specs.Filter.{setAside}
 use Rattle.choice.specs.declared.Choice.{Choice}
 use Rattle.choice.specs.declared.Choice.the-variants as Choice
 use Rattle.choice.specs.Choice.{selection}

@@ -3,7 +3,7 @@ use mathlib.Core.Bool.{Bool, true, false}
 use mathlib.Core.List.{List}
 use Prim.Native.Nat.{ℕ}
 use Rattle.jobfile.specs.Read.{readJob, choices}
-use Rattle.names.specs.Same.{alike}
+use Rattle.names.specs.Likeness.{alike}
 use Rattle.arguments.specs.Answers.{Answer, value, onJob, Said, answered, refusalSaid}
 use Rattle.calls.specs.declared.CompareAnswer.{CompareAnswer}
 use Rattle.calls.specs.declared.CompareAnswer.the-variants as CompareAnswer

@@ -2,7 +2,7 @@
 use mathlib.Core.List.{List}
 use Prim.Native.Nat.{ℕ}
 use Rattle.jobfile.specs.Read.{readJob, either}
-use Rattle.jobfile.specs.Answers.{nameIn}
+use Rattle.jobfile.specs.Meaning.{nameIn}
 
 -- the name of article or step `number`, as a part of the file: empty for a refused file, an absent number or no name
 abbrev pub nameOf : List ℕ → ℕ → List ℕ

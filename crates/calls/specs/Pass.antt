@@ -5,7 +5,7 @@ use lib.ListN.{getD}
 use Rattle.jobfile.specs.Job.{Job, size, order}
 use Rattle.jobfile.specs.Read.{readJob, choices}
 use Rattle.network.specs.Network.{networkOf}
-use Rattle.network.specs.Filter.{pass}
+use Rattle.filter.specs.Filter.{pass}
 use Rattle.arguments.specs.Answers.{Answer, value, onJob, behind, Said, answered, refusalSaid}
 use Rattle.arguments.specs.Tests.{groupsTest, passTest}
 use Rattle.calls.specs.declared.PassAnswer.{PassAnswer}

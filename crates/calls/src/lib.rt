@@ -6,8 +6,8 @@
 ghost use mathlib.Core.Path.{_≡_};
 ghost use Rattle.reading.specs.declared.Reason.the-variants.{NameNotFound};
 ghost use Rattle.jobfile.specs.Read.{readJob, fittings};
-ghost use Rattle.names.specs.Names.{placeOf};
-ghost use Rattle.arguments.specs.Answers.{found, said};
+ghost use Rattle.names.specs.Meaning.{holderOf};
+ghost use Rattle.arguments.specs.Answers.{foundOr, said};
 ghost use Rattle.calls.specs.Partition.{partitionOf, partitionTold};
 ghost use Rattle.calls.specs.Pass.{passOf, passTold};
 ghost use Rattle.calls.specs.Choose.{chooseOf, searched, choiceTold};
@@ -21,8 +21,7 @@ use choice::Choice;
 use jobfile::Verdict;
 use arguments::written;
 use names::likeness;
-use names::names;
-use names::names::Named;
+use names::Holder;
 use planner::Planned;
 use reading::Reason;
 use reading::Refusal;
@@ -97,7 +96,7 @@ fn searched(chosen: Choice) -> ChoiceAnswer
         Choice::Chosen(x, aside) => {
             ChoiceAnswer::Chosen(ArticleSet { bits: x }, ArticleSet { bits: aside })
         }
-        Choice::Nothing => ChoiceAnswer::Refused(arguments::refusal_at(Reason::NoSelection, 0)),
+        Choice::Nothing => ChoiceAnswer::Refused(reading::refusal_at(Reason::NoSelection, 0)),
     }
 }
 
@@ -225,7 +224,7 @@ pub fn plan(file: &[u8], words: &mut [u32]) -> PlanAnswer
     let made = planner::plan(read, words);
     match made {
         Planned::Rounds(k) => PlanAnswer::Rounds(k),
-        Planned::Nothing => PlanAnswer::Refused(arguments::refusal_at(Reason::NoPlan, 0)),
+        Planned::Nothing => PlanAnswer::Refused(reading::refusal_at(Reason::NoPlan, 0)),
     }
 }
 
@@ -249,12 +248,12 @@ pub enum FindAnswer {
 }
 
 // What was found, or 16.
-fn found(named: Named) -> FindAnswer
-    ensures { λ r. ⌜ findTold r ≡ said (found (placeOf named) NameNotFound) ⌝ }
+fn answer_of(holder: Holder) -> FindAnswer
+    ensures { λ r. ⌜ findTold r ≡ said (foundOr (holderOf holder) NameNotFound) ⌝ }
 {
-    match named {
-        Named::At(i) => FindAnswer::Number(i),
-        Named::Nowhere => FindAnswer::Refused(arguments::refusal_at(Reason::NameNotFound, 0)),
+    match holder {
+        Holder::Number(i) => FindAnswer::Number(i),
+        Holder::Nobody => FindAnswer::Refused(reading::refusal_at(Reason::NameNotFound, 0)),
     }
 }
 
@@ -270,7 +269,7 @@ pub fn find(file: &[u8], name: &[u8]) -> FindAnswer
         }
         let starts = read.starts;
         let lens = read.lens;
-        return found(names::search(file, starts, lens, read.steps, name));
+        return answer_of(names::search(file, starts, lens, read.steps, name));
     }
     let read = jobfile::read_choice(file);
     let verdict = read.verdict;
@@ -279,7 +278,7 @@ pub fn find(file: &[u8], name: &[u8]) -> FindAnswer
     }
     let starts = read.starts;
     let lens = read.lens;
-    found(names::search(file, starts, lens, read.articles, name))
+    answer_of(names::search(file, starts, lens, read.articles, name))
 }
 
 // Whether two files are alike, or why one of them is refused.

@@ -6,7 +6,7 @@ ghost use mathlib.Core.List.{[], _∷_};
 ghost use Rattle.reading.specs.Items.{spots};
 ghost use Rattle.reading.specs.Reasons.{numberOf};
 ghost use Rattle.jobfile.specs.Read.{read, readJob, fittings, either};
-ghost use Rattle.jobfile.specs.Answers.{spotIn};
+ghost use Rattle.jobfile.specs.Meaning.{spotIn};
 ghost use Rattle.arguments.specs.Answers.{said};
 ghost use Rattle.calls.specs.Partition.{partitionOf};
 ghost use Rattle.calls.specs.Pass.{passOf};

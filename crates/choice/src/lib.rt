@@ -7,16 +7,18 @@ ghost use lib.ListN.{length, getD};
 ghost use Rattle.sets.specs.Sets.{full};
 ghost use Rattle.network.specs.Network.{listed};
 ghost use Rattle.network.specs.Groups.{Partition};
-ghost use Rattle.network.specs.Filter.{passes, GoalsWithin};
-ghost use Rattle.tables.specs.Tables.{Tabled};
+ghost use Rattle.filter.specs.Filter.{passes, GoalsWithin};
+ghost use Rattle.network.specs.Tables.{Tabled};
 ghost use Rattle.choice.specs.Choice.{smallest, chosen, unaided, offered};
-ghost use Rattle.choice.specs.Search.{foundBy, isSome};
+ghost use Rattle.choice.specs.Meaning.{foundBy, isSome};
 
 mod find;
 mod least;
 
 use jobfile::ReadChoice;
 use network::partition;
+use network::tables;
+use sets::table;
 use sets::word;
 
 // A set of articles, or that there is none.
@@ -114,7 +116,7 @@ pub fn choose(
     let live = left_live(wishes, n, groups, goals);
     let aside = word::without(word::full(n), live);
     let both = tables::both_ways(clashes);
-    let carriers = tables::transposed(wishes);
+    let carriers = table::transposed(wishes);
     let found = smallest(wishes, &both, &carriers, live, order, floor);
     match found {
         Found::Set(x) => Choice::Chosen(x, aside),

@@ -26,19 +26,19 @@ use Rattle.reading.specs.Reasons.{numberOf, answers}
 use Rattle.reading.specs.Got.{Got, got, refused}
 use Rattle.jobfile.specs.Job.{Record, Job, namesOf, size, wishCount, order, wishes, clashes, horizon}
 use Rattle.jobfile.specs.Read.{readJob}
-use Rattle.names.specs.Same.{sameList, sameName, alike}
-use Rattle.names.specs.Names.{lowestNamed}
+use Rattle.names.specs.Names.{sameList, sameName, lowestNamed}
+use Rattle.names.specs.Likeness.{alike}
 use Rattle.names.proofs.SameLaws.{list-same, agree}
 use Rattle.network.specs.Network.{Network, networkOf, clash}
 use Rattle.network.specs.Groups.{misplaced, firstMisplaced}
-use Rattle.network.specs.Filter.{outside, badGoal, firstBad, setAside}
+use Rattle.filter.specs.Filter.{outside, badGoal, firstBad, setAside}
 use Rattle.network.proofs.GroupLaws.{lent-right}
-use Rattle.network.proofs.GoalLaws.{goals-within}
+use Rattle.filter.proofs.GoalLaws.{goals-within}
 use Rattle.choice.specs.Choice.{selection}
 use Rattle.choice.proofs.Theorems.{none-exactly, the-smallest, set-aside}
 use Rattle.planning.specs.Rounds.{fittingOf, fewest}
 use Rattle.planning.proofs.PlanLaws.{fewest-none, fewest-some}
-use Rattle.arguments.specs.Answers.{Answer, refusal, value, onJob, unless, unlessAt, passed, behind, found, Said, refusedBy, answered, said, accepted, leaving}
+use Rattle.arguments.specs.Answers.{Answer, refusal, value, onJob, unless, unlessAt, passed, behind, foundOr, Said, refusedBy, answered, said, accepted, leaving}
 use Rattle.arguments.specs.Tests.{roomTest, layerTest, groupsTest, passTest, goalsTest}
 use Rattle.demands.specs.Demands.{Exactly, Refuses, Says, Fault, FirstOf, Off, Wrong, absentLayer, shortBuffer, Misplaced, falsePartition, absentArticle, Bad, wrongGoal, wrongGoals, Has, Alike, ChoiceKept, PlanKept}
 use Rattle.calls.specs.Choose.{Chosen, chosenOr, chooseIn}
@@ -352,19 +352,19 @@ module _ (groups goals : List ℕ) (floor : ℕ) where
 
 -- ---- the planner, and finding by name
 
-pub found-taken : {A : Type 0} (o : Option A) (r : Reason) → answers (numberOf r) ≡ true → accepted (said (found o r)) ≡ true
+pub found-taken : {A : Type 0} (o : Option A) (r : Reason) → answers (numberOf r) ≡ true → accepted (said (foundOr o r)) ≡ true
 found-taken none r t = t
 found-taken (some x) r t = refl
 
-pub found-none : {A : Type 0} (o : Option A) (r : Reason) → Exactly (Says (said (found o r)) (numberOf r)) (o ≡ none)
+pub found-none : {A : Type 0} (o : Option A) (r : Reason) → Exactly (Says (said (foundOr o r)) (numberOf r)) (o ≡ none)
 found-none none r = (λ w. refl, λ e. (0, refl))
 found-none (some x) r = (λ w. absurd (no-refusal (w .1)), λ e. absurd (Option·none-ne-some x (sym e)))
 
-pub found-some : {A : Type 0} (o : Option A) (r : Reason) (x : A) → Exactly (said (found o r) ≡ answered x) (o ≡ some x)
+pub found-some : {A : Type 0} (o : Option A) (r : Reason) (x : A) → Exactly (said (foundOr o r) ≡ answered x) (o ≡ some x)
 found-some none r x = (λ e. absurd (no-refusal (sym e)), λ e. absurd (Option·none-ne-some x e))
 found-some (some y) r x = (λ e. ap some (one-value e), λ e. ap answered (Option·some-injective y x e))
 
-pub found-nothing : {A : Type 0} (o : Option A) (r : Reason) → Exactly (said (found o r) ≡ refusedBy (numberOf r) 0) (o ≡ none)
+pub found-nothing : {A : Type 0} (o : Option A) (r : Reason) → Exactly (said (foundOr o r) ≡ refusedBy (numberOf r) 0) (o ≡ none)
 found-nothing none r = (λ e. refl, λ e. refl)
 found-nothing (some x) r = (λ e. absurd (no-refusal e), λ e. absurd (Option·none-ne-some x (sym e)))
 
@@ -430,8 +430,8 @@ alike-exactly a b = (to, back)
         (true-both (eqb (order a) (order b)) _ (eq-eqb _ _ r)
         (true-both (sameList (wishes a) (wishes b)) _ (sym (agree (wishes a) (wishes b) s)) (sym (agree (clashes a) (clashes b) t)))))
 
-pub plan-is : (buffer : List ℕ) (job : Job (List ℕ)) → accepted (said (planIn job buffer)) ≡ true → planIn job buffer ≡ found (fewest (fittingOf job) (horizon job)) NoPlan
-plan-is buffer job t = room-checks buffer (horizon job) .passes (found (fewest (fittingOf job) (horizon job)) NoPlan) t
+pub plan-is : (buffer : List ℕ) (job : Job (List ℕ)) → accepted (said (planIn job buffer)) ≡ true → planIn job buffer ≡ foundOr (fewest (fittingOf job) (horizon job)) NoPlan
+plan-is buffer job t = room-checks buffer (horizon job) .passes (foundOr (fewest (fittingOf job) (horizon job)) NoPlan) t
 
 -- a front that has as many elements as were asked for
 front-whole : (k : ℕ) (l : List ℕ) → k ≤ length (take k l) → length (take k l) ≡ k
@@ -443,7 +443,7 @@ module _ (old new : List ℕ) where
   plan-kept job t w = go (ltb (length old) (horizon job)) (fewest (fittingOf job) (horizon job)) refl t w
     where
       answer : Bool → Option ℕ → Answer ℕ
-      answer short k = behind (unless short ShortBuffer passed) (found k NoPlan)
+      answer short k = behind (unless short ShortBuffer passed) (foundOr k NoPlan)
 
       go : (short : Bool) (k : Option ℕ) → fewest (fittingOf job) (horizon job) ≡ k → accepted (said (answer short k)) ≡ true → WordsIn (fittingOf job) old new (answer short k) → PlanKept job old new (said (answer short k))
       go true k e t w = absurd (false≢true t)

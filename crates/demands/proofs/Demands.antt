@@ -16,15 +16,15 @@ use Rattle.jobfile.specs.Job.{Job, namesOf, size, order, horizon}
 use Rattle.jobfile.specs.Read.{read, readJob, choices, fittings, either}
 use Rattle.jobfile.specs.Write.{write}
 use Rattle.jobfile.specs.Valid.{Bytes, Valid}
-use Rattle.jobfile.specs.Answers.{spotIn, nameIn}
+use Rattle.jobfile.specs.Meaning.{spotIn, nameIn}
 use Rattle.jobfile.proofs.NamingLaws.{name-at-spot}
 use Rattle.reading.specs.Items.{spots}
 use Rattle.jobfile.proofs.Theorems.{exact-and-valid, kind-taken, read-back, one-writing}
 use Rattle.names.specs.Names.{lowestNamed}
-use Rattle.names.specs.Same.{alike}
+use Rattle.names.specs.Likeness.{alike}
 use Rattle.network.specs.Network.{Selection, networkOf}
 use Rattle.network.specs.Groups.{Partition, groupsTo, groupOf}
-use Rattle.network.specs.Filter.{pass, setAside}
+use Rattle.filter.specs.Filter.{pass, setAside}
 use Rattle.network.proofs.GroupLaws.{groups-length, groups-right}
 use Rattle.choice.specs.Choice.{selection}
 use Rattle.choice.proofs.Theorems.{none-exactly, exactly-none}

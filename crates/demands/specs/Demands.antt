@@ -13,7 +13,7 @@ use Rattle.reading.specs.Got.{got, refused}
 use Rattle.jobfile.specs.Job.{Job, namesOf, size, wishCount, order, wishes, clashes, horizon}
 use Rattle.jobfile.specs.Read.{readJob}
 use Rattle.network.specs.Network.{Network, Selection, networkOf, clash}
-use Rattle.network.specs.Filter.{setAside}
+use Rattle.filter.specs.Filter.{setAside}
 use Rattle.planning.specs.Rounds.{fittingOf, Plan}
 use Rattle.arguments.specs.Answers.{Said, refusedBy, answered}
 use Rattle.calls.specs.Choose.{Chosen}

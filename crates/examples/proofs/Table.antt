@@ -8,11 +8,11 @@ use Rattle.reading.specs.Got.{eachAt, upFrom}
 use Rattle.reading.specs.Items.{kindAt, valueAt, numberAt, countAt, mapAt, setAt, fieldAt, lengthAt, nameAt}
 use Rattle.jobfile.specs.Layout.{choice, fitting, kinds, layoutIn}
 use Rattle.jobfile.specs.Read.{fieldsAt, recordAt, bodyAt, layoutAt, read, readJob}
-use Rattle.names.specs.Same.{sameList}
+use Rattle.names.specs.Names.{sameList}
 use Rattle.text.specs.Text.{digits, members, roundTexts}
 use Rattle.network.specs.Network.{clash, together}
 use Rattle.network.specs.Groups.{misplaced, firstMisplaced, suits, opened, joins, groupsTo}
-use Rattle.network.specs.Filter.{outside, badGoal, firstBad, share, contribution, others, supported, pass, passes, setAside}
+use Rattle.filter.specs.Filter.{outside, badGoal, firstBad, share, contribution, others, supported, pass, passes, setAside}
 use Rattle.choice.specs.Choice.{isCover, smallest}
 use Rattle.planning.specs.Rounds.{disturb, after, isRound, leads, leadsIn, fewest}
 use Rattle.planning.specs.Layers.{mutexes, opposed, stands, rivals, standing, roundOver, givers, excluded, givenBy, factsOver, factLayer}

@@ -11,7 +11,7 @@ use Rattle.reading.specs.Reasons.{answers}
 use Rattle.reading.specs.Items.{spots}
 use Rattle.jobfile.specs.Job.{Job, size}
 use Rattle.jobfile.specs.Read.{read, readJob, fittings, either}
-use Rattle.jobfile.specs.Answers.{spotIn}
+use Rattle.jobfile.specs.Meaning.{spotIn}
 use Rattle.planning.specs.Rounds.{fittingOf, isPlan}
 use Rattle.arguments.specs.Answers.{Answer, value, onJob, Said, refusedBy, answered, said, Left}
 use Rattle.calls.specs.Partition.{partitionOf}

@@ -19,14 +19,13 @@ use Rattle.jobfile.specs.declared.ReadFitting.{ReadFitting}
 use Rattle.jobfile.specs.Layout.{Bound, counted, Field, set, amount, Layout, nameBit, bits, choice, fitting, kinds, layoutIn, layoutOf}
 use Rattle.jobfile.specs.Job.{Record, Job, column, size, factCount, horizon, start, goal}
 use Rattle.jobfile.specs.Read.{below, itemAt, fieldsAt, recordAt, bodyAt, layoutOr, layoutAt, read, readJob, fittings}
-use Rattle.jobfile.specs.Answers.{padded, Few, FittingBounds}
-use Rattle.jobfile.specs.Answers as Answers
+use Rattle.jobfile.specs.Meaning.{padded, Few, FittingBounds, fittingRead}
 use Rattle.jobfile.proofs.Lawful.{All, then-got, refuse-got, same-value}
 use Rattle.jobfile.proofs.ReadLaws.{padded-at, nothing-there}
 use Rattle.jobfile.proofs.NamingLaws.{mapGot, recordBy, jobBy, read-same}
 use Rattle.planning.specs.Rounds.{fittingOf}
 use Rattle.planning.specs.Back.{Sized}
-use Rattle.layers.specs.Drawn.{fittingIn}
+use Rattle.layers.specs.Meaning.{fittingIn}
 
 -- ---- items
 
@@ -178,7 +177,7 @@ module _ (job : Job Spot) (end : ℕ) (few : Few 32 (got job end)) where
   word-past k a h = word-at k a ∙ List·getD-eq-default (column k (job .records)) 0 {n = a} (omega (arith, column-length k (job .records), few .0))
 
   -- it is the fitting of the job that was read
-  job-same : fittingIn (Answers.fittingOf (got job end)) ≡ fittingOf job
+  job-same : fittingIn (fittingRead (got job end)) ≡ fittingOf job
   job-same = λ i. record {
     count = size job;
     facts = factCount job;
@@ -188,7 +187,7 @@ module _ (job : Job Spot) (end : ℕ) (few : Few 32 (got job end)) where
     horizon = horizon job;
   }
 
-  sized-job : factCount job ≤ 32 → Kept job → Sized 32 (fittingIn (Answers.fittingOf (got job end)))
+  sized-job : factCount job ≤ 32 → Kept job → Sized 32 (fittingIn (fittingRead (got job end)))
   sized-job room kept = record {
     few = few .1;
     room = room;
@@ -204,7 +203,7 @@ module _ (job : Job Spot) (end : ℕ) (few : Few 32 (got job end)) where
       below-limit k a = subst (λ (x : ℕ). x < 2 ^ factCount job) (sym (word-at k a)) (kept .columns k a)
 
 -- where nothing was read there is no step and no fact
-sized-none : (reason : Reason) (place : ℕ) → Sized 32 (fittingIn (Answers.fittingOf (refused reason place)))
+sized-none : (reason : Reason) (place : ℕ) → Sized 32 (fittingIn (fittingRead (refused reason place)))
 sized-none reason place = record {
   few = zero-le;
   room = zero-le;
@@ -219,21 +218,21 @@ sized-none reason place = record {
 -- ---- what a reading is good for
 
 -- whatever was read, accepted or not, there is room for it and its sets are of facts that there are
-pub sized-read : (f : List ℕ) (r : ReadFitting) → r ≡ Answers.fittingOf (read spots fittings f) → FittingBounds f r → Sized 32 (fittingIn r)
+pub sized-read : (f : List ℕ) (r : ReadFitting) → r ≡ fittingRead (read spots fittings f) → FittingBounds f r → Sized 32 (fittingIn r)
 sized-read f r e bounds =
     subst (λ (x : ReadFitting). Sized 32 (fittingIn x)) (sym e)
     (go (read spots fittings f) refl (subst (λ (x : ReadFitting). x .facts ≤ 32) e (bounds .1)) (bounds .4))
   where
-    go : (g : Got (Job Spot)) → read spots fittings f ≡ g → Answers.fittingOf g .facts ≤ 32 → Few 32 g → Sized 32 (fittingIn (Answers.fittingOf g))
+    go : (g : Got (Job Spot)) → read spots fittings f ≡ g → fittingRead g .facts ≤ 32 → Few 32 g → Sized 32 (fittingIn (fittingRead g))
     go (refused reason place) q room few = sized-none reason place
     go (got job end) q room few = sized-job job end few room (read-kept spots f job end q)
 
 -- the code has the fitting of the job that was read, with the names as spots
-pub fitting-same : (g : Got (Job Spot)) (r : ReadFitting) → r ≡ Answers.fittingOf g → Few 32 g → (job : Job Spot) (end : ℕ) → g ≡ got job end → fittingIn r ≡ fittingOf job
-fitting-same g r e few job end q = ap fittingIn (e ∙ ap Answers.fittingOf q) ∙ job-same job end (subst (Few 32) q few)
+pub fitting-same : (g : Got (Job Spot)) (r : ReadFitting) → r ≡ fittingRead g → Few 32 g → (job : Job Spot) (end : ℕ) → g ≡ got job end → fittingIn r ≡ fittingOf job
+fitting-same g r e few job end q = ap fittingIn (e ∙ ap fittingRead q) ∙ job-same job end (subst (Few 32) q few)
 
 -- and with the names as bytes, as the rules have it
-pub fitting-read : (f : List ℕ) (r : ReadFitting) → r ≡ Answers.fittingOf (read spots fittings f) → FittingBounds f r → (job : Job (List ℕ)) (end : ℕ) → readJob fittings f ≡ got job end
+pub fitting-read : (f : List ℕ) (r : ReadFitting) → r ≡ fittingRead (read spots fittings f) → FittingBounds f r → (job : Job (List ℕ)) (end : ℕ) → readJob fittings f ≡ got job end
     → fittingIn r ≡ fittingOf job
 fitting-read f r e bounds job end q = go (read spots fittings f) refl (sym (read-same f fittings) ∙ q)
   where

@@ -1,9 +1,9 @@
-// Fact layer k and round layer k of a fitting file as read: `layering` makes one from the one below it.
+// Fact layer k and round layer k of a fitting file as read: `layers` makes one from the one below it.
 ghost use mathlib.Core.Path.{_≡_};
 ghost use Prim.Native.Nat.{_<_};
 ghost use Rattle.planning.specs.Layers.{factLayer, roundLayer};
 ghost use Rattle.planning.specs.Back.{Sized};
-ghost use Rattle.layers.specs.Drawn.{layer, roomy, fittingIn};
+ghost use Rattle.layers.specs.Meaning.{layer, roomy, fittingIn};
 use jobfile::ReadFitting;
 use layers::Layer;
 

@@ -13,16 +13,17 @@ use lib.Seq.{getD-set-same, getD-set-other}
 use Rattle.sets.specs.Sets.{bit, _∈_, _⊆_, without}
 use Rattle.sets.proofs.Bits.{bit-le, bit-cases, bit-empty, bit-or, bit-without, member-below, only-one, part-refl, part-in, in-part, part-below, none-without, in-without, less-in, more-same, member-differs}
 use Rattle.sets.proofs.Made.{gathered-at, gathered-from}
-use Rattle.network.specs.Network.{Network, listed}
-use Rattle.tables.specs.Tables.{Tabled}
+use Rattle.network.specs.Network.{Network, listed, Cover}
+use Rattle.network.specs.Tables.{Tabled}
 use Rattle.choice.specs.declared.Found.{Found}
 use Rattle.choice.specs.declared.Found.the-variants as Found
-use Rattle.choice.specs.Choice.{Cover, smallest}
-use Rattle.choice.specs.Search.{foundBy, Finds}
+use Rattle.choice.specs.Choice.{smallest}
+use Rattle.choice.specs.Search.{Finds}
+use Rattle.choice.specs.Meaning.{foundBy}
 use Rattle.choice.proofs.CoverLaws.{widened}
 use Rattle.supports.specs.Questions.{rowOf, Opens, Uncovered}
 use Rattle.supports.proofs.LayerLaws.{asked}
-use Rattle.extraction.specs.Extraction.{Graph, Picks, needed, Back, Held, Fine, Nogoods, StoredIf, Blocked, Lacking, Refuses}
+use Rattle.extraction.specs.Extraction.{Graph, Picks, needsOf, Back, Held, Fine, Nogoods, StoredIf, Blocked, Lacking, Refutes}
 use Rattle.extraction.proofs.NogoodLaws.{stored-if, whole-box}
 
 -- ---- sets
@@ -60,14 +61,14 @@ module _ (T : Graph) where
   unfolding Held
   held-set zero g q i w l h = h
   held-set (suc j) g q i w l (x, c, e, h) =
-      (x, c, getD-set-other q i j w 0 (λ z. let y : j ≡ i = z in let f : ⊥ = omega arith in f) ∙ e, held-set j (needed T x) q i w (omega arith) h)
+      (x, c, getD-set-other q i j w 0 (λ z. let y : j ≡ i = z in let f : ⊥ = omega arith in f) ∙ e, held-set j (needsOf T x) q i w (omega arith) h)
 
-  pub held-more : (k g n x w : ℕ) (q : List ℕ) → k ≢ 0 → k - 1 < length q → Picks T (k - 1) g x → n ≡ needed T x → w ≡ x / 2 ^ 32 → Held T (k - 1) n q
+  pub held-more : (k g n x w : ℕ) (q : List ℕ) → k ≢ 0 → k - 1 < length q → Picks T (k - 1) g x → n ≡ needsOf T x → w ≡ x / 2 ^ 32 → Held T (k - 1) n q
       → Held T k g (set q (k - 1) w)
   unfolding Held
   held-more k g n x w q d l c en ew h =
       subst (λ (r : ℕ). Held T r g (set q (k - 1) w)) (let e : suc (k - 1) ≡ k = omega arith in e)
-      (x, c, getD-set-same q (k - 1) w 0 l ∙ ew, held-set (k - 1) (needed T x) q (k - 1) w (omega arith) (subst (λ (y : ℕ). Held T (k - 1) y q) en h))
+      (x, c, getD-set-same q (k - 1) w 0 l ∙ ew, held-set (k - 1) (needsOf T x) q (k - 1) w (omega arith) (subst (λ (y : ℕ). Held T (k - 1) y q) en h))
 
   -- ---- no round left
 
@@ -76,9 +77,9 @@ module _ (T : Graph) where
   bottom-held k g lack q ek el z = subst (λ (r : ℕ). Held T r g q) (sym ek) (none-without g (T .start) (sym el ∙ z))
 
   -- one fact of the goal that the start lacks is enough
-  pub bottom-lacks : (k g may must why lack f e : ℕ) → k ≡ 0 → lack ≡ without g (T .start) → f ∈ lack → why ⊆ g → e ≡ bitOr why (2 ^ f) → Refuses T k g may must why e
+  pub bottom-lacks : (k g may must why lack f e : ℕ) → k ≡ 0 → lack ≡ without g (T .start) → f ∈ lack → why ⊆ g → e ≡ bitOr why (2 ^ f) → Refutes T k g may must why e
   bottom-lacks k g may must why lack f e ek el m h ee =
-      subst (λ (r : ℕ). Refuses T r g may must why e) (sym ek) (subst (λ (y : ℕ). Lacking T g why y) (sym ee) (record {
+      subst (λ (r : ℕ). Refutes T r g may must why e) (sym ek) (subst (λ (y : ℕ). Lacking T g why y) (sym ee) (record {
         keeps = λ i. omega (arith, bit-or why (2 ^ f) i);
         part = λ i. omega (arith, bit-or why (2 ^ f) i, h i, one-part f g (out .0) i);
         lacks = λ s. omega (arith, s f, more-same why f, out .1);
@@ -89,14 +90,14 @@ module _ (T : Graph) where
 
   -- ---- a round is left
 
-  pub blocked-refuses : (k g may must why e : ℕ) → k ≢ 0 → Blocked T (k - 1) g may must why e → Refuses T k g may must why e
-  blocked-refuses k g may must why e d b = subst (λ (r : ℕ). Refuses T r g may must why e) (let q : suc (k - 1) ≡ k = omega arith in q) b
+  pub blocked-refuses : (k g may must why e : ℕ) → k ≢ 0 → Blocked T (k - 1) g may must why e → Refutes T k g may must why e
+  blocked-refuses k g may must why e d b = subst (λ (r : ℕ). Refutes T r g may must why e) (let q : suc (k - 1) ≡ k = omega arith in q) b
 
-  pub refuses-blocked : (k g may must why e : ℕ) → k ≢ 0 → Refuses T k g may must why e → Blocked T (k - 1) g may must why e
-  refuses-blocked k g may must why e d b = subst (λ (r : ℕ). Refuses T r g may must why e) (let q : k ≡ suc (k - 1) = omega arith in q) b
+  pub refuses-blocked : (k g may must why e : ℕ) → k ≢ 0 → Refutes T k g may must why e → Blocked T (k - 1) g may must why e
+  refuses-blocked k g may must why e d b = subst (λ (r : ℕ). Refutes T r g may must why e) (let q : k ≡ suc (k - 1) = omega arith in q) b
 
   -- facts that are refuted, in any box
-  pub known-refuses : (k g may must why c : ℕ) → k ≢ 0 → c ⊆ g → (Back T k c → ⊥) → why ⊆ g → Refuses T k g may must why (bitOr c why)
+  pub known-refuses : (k g may must why c : ℕ) → k ≢ 0 → c ⊆ g → (Back T k c → ⊥) → why ⊆ g → Refutes T k g may must why (bitOr c why)
   unfolding Back
   known-refuses k g may must why c d hc none hw =
       blocked-refuses k g may must why (bitOr c why) d (record {
@@ -112,9 +113,9 @@ module _ (T : Graph) where
     pub open-picks : (g x : ℕ) → Cover (layer j) v g x → Picks T j g x
     open-picks g x c = widened (layer j) (o .within) c
 
-    pub open-needs : (g x : ℕ) → Cover (layer j) v g x → needed T x ⊆ may
+    pub open-needs : (g x : ℕ) → Cover (layer j) v g x → needsOf T x ⊆ may
     open-needs g x c =
-        in-part (needed T x) may
+        in-part (needsOf T x) may
         (λ i m. let (u, l, mu, mi) = gathered-from 64 (λ v. getD (T .needs) v 0) x i m in
         part-in (getD (T .needs) u 0) may (o .inside u (part-in x v (c .within) u mu)) i mi)
 
@@ -126,7 +127,7 @@ module _ (T : Graph) where
       blocked = λ x p _ inside _. u .uncovered x (record { within = in-part x v (uses x p inside); free = p .free; covers = p .covers });
     }
       where
-        uses : (x : ℕ) → Picks T j e x → needed T x ⊆ may → (i : ℕ) → i ∈ x → i ∈ v
+        uses : (x : ℕ) → Picks T j e x → needsOf T x ⊆ may → (i : ℕ) → i ∈ x → i ∈ v
         uses x p inside i m =
             let n = part-in x (getD (T .members) j 0) (p .within) i m in
             o .whole i n (λ f. le-trans (gathered-at 64 (λ v. getD (T .needs) v 0) x i (member-below (getD (T .members) j 0) 64 i h n) m f) (inside f))
@@ -140,7 +141,7 @@ module _ (T : Graph) where
     pub part : reason ⊆ g
     pub left : rest ⊆ may
     pub rise : (i : ℕ) → bit c i ≤ max (bit kept i) (bit rest i)
-    pub done : (x : ℕ) → Picks T j reason x → must ⊆ needed T x → needed T x ⊆ may → Back T j (needed T x) → kept ⊆ needed T x
+    pub done : (x : ℕ) → Picks T j reason x → must ⊆ needsOf T x → needsOf T x ⊆ may → Back T j (needsOf T x) → kept ⊆ needsOf T x
 
   pub turning-start : (j g may must why c n rest : ℕ) → why ⊆ g → c ⊆ n → n ⊆ may → rest ≡ without c must → Turning j g may must why c rest must why
   turning-start j g may must why c n rest hw hc hn e = subst (λ (r : ℕ). Turning j g may must why c r must why) (sym e) (record {
@@ -160,7 +161,7 @@ module _ (T : Graph) where
     left = λ i. omega (arith, off i, t .left i);
     rise = λ i. omega (arith, off i, on i, t .rise i, bit-le c i);
     done = λ x p hm ha hb i. let old = t .done x (cover-part (layer j) e reason (b .keeps) p) hm ha hb in
-        omega (arith, on i, old i, one-part f (needed T x) (has x p ha hb old (bit-cases (needed T x) f)) i);
+        omega (arith, on i, old i, one-part f (needsOf T x) (has x p ha hb old (bit-cases (needsOf T x) f)) i);
   }
     where
       off : (i : ℕ) → bit rest′ i ≡ bit rest i - bit (2 ^ f) i
@@ -169,8 +170,8 @@ module _ (T : Graph) where
       on : (i : ℕ) → bit kept′ i ≡ max (bit kept i) (bit (2 ^ f) i)
       on i = ap (λ (y : ℕ). bit y i) ek ∙ bit-or kept (2 ^ f) i
 
-      has : (x : ℕ) → Picks T j e x → needed T x ⊆ may → Back T j (needed T x) → kept ⊆ needed T x → (bit (needed T x) f ≡ 0) ⊎ (bit (needed T x) f ≡ 1) → f ∈ needed T x
-      has x p ha hb old (inl z) = absurd (b .blocked x p old (subst (λ (y : ℕ). needed T x ⊆ y) (sym el) (lacking-part (needed T x) may f z ha)) hb)
+      has : (x : ℕ) → Picks T j e x → needsOf T x ⊆ may → Back T j (needsOf T x) → kept ⊆ needsOf T x → (bit (needsOf T x) f ≡ 0) ⊎ (bit (needsOf T x) f ≡ 1) → f ∈ needsOf T x
+      has x p ha hb old (inl z) = absurd (b .blocked x p old (subst (λ (y : ℕ). needsOf T x ⊆ y) (sym el) (lacking-part (needsOf T x) may f z ha)) hb)
       has x p ha hb old (inr o) = o
 
   -- a selection that needs all of c is refuted with it
@@ -178,7 +179,7 @@ module _ (T : Graph) where
   turning-last j g may must why c rest kept reason none t z = record {
     keeps = t .keeps;
     part = t .part;
-    blocked = λ x p hm ha hb. none (back-part j (needed T x) c (λ i. omega (arith, t .rise i, t .done x p hm ha hb i, ap (λ (y : ℕ). bit y i) z, bit-empty i)) hb);
+    blocked = λ x p hm ha hb. none (back-part j (needsOf T x) c (λ i. omega (arith, t .rise i, t .done x p hm ha hb i, ap (λ (y : ℕ). bit y i) z, bit-empty i)) hb);
   }
 
   module _ (carriers : List ℕ) (fine : Fine T carriers) where
@@ -192,22 +193,22 @@ module _ (T : Graph) where
 
     -- ---- the whole box: every selection lies in it
 
-    pub refuses-whole : (k g why e : ℕ) → Refuses T k g (T .all) 0 why e → (e ⊆ g) × (Back T k e → ⊥)
+    pub refuses-whole : (k g why e : ℕ) → Refutes T k g (T .all) 0 why e → (e ⊆ g) × (Back T k e → ⊥)
     unfolding Back
     refuses-whole zero g why e r = (r .part, r .lacks)
     refuses-whole (suc j) g why e r = (r .part, λ (x, p, b). r .blocked x p (λ i. omega (arith, bit-empty i)) (inside x) b)
       where
-        inside : (x : ℕ) → needed T x ⊆ T .all
+        inside : (x : ℕ) → needsOf T x ⊆ T .all
         inside x =
-            in-part (needed T x) (T .all)
+            in-part (needsOf T x) (T .all)
             (λ i m. let (u, l, mu, mi) = gathered-from 64 (λ v. getD (T .needs) v 0) x i m in part-in (getD (T .needs) u 0) (T .all) (fine .inside u) i mi)
 
     -- so that what is refused there may be stored
     pub stored-refused : (first : Bool) (old new : List ℕ) (k g may must why e : ℕ) → first ≡ (eqb may (T .all) && eqb must 0) → k ≤ length (T .members) → e < 2 ^ 32
-        → Refuses T k g may must why e → Nogoods T old → StoredIf first k e old new → Nogoods T new
+        → Refutes T k g may must why e → Nogoods T old → StoredIf first k e old new → Nogoods T new
     stored-refused first old new k g may must why e q few below r known stored = stored-if T first old new known k e stored few below none
       where
         none : first ≡ true → Back T k e → ⊥
         none on =
             let (same, empty) = whole-box may (T .all) must (sym q ∙ on) in
-            refuses-whole k g why e (subst (λ (x : ℕ). Refuses T k g x 0 why e) same (subst (λ (y : ℕ). Refuses T k g may y why e) empty r)) .1
+            refuses-whole k g why e (subst (λ (x : ℕ). Refutes T k g x 0 why e) same (subst (λ (y : ℕ). Refutes T k g may y why e) empty r)) .1

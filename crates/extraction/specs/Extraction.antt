@@ -1,4 +1,4 @@
--- Plan extraction: working back over tables of round layers, one round at a time. What rounds and plans are stands in `graph`; here a
+-- Plan extraction: working back over tables of round layers, one round at a time. What rounds and plans are stands in `planning`; here a
 -- round for a goal is a selection of a round layer.
 use mathlib.Core.Path.{_≡_}
 use mathlib.Core.Bool.{Bool, true, false}
@@ -7,9 +7,8 @@ use mathlib.Core.Logic.{_⊎_}
 use Prim.Native.Nat.{ℕ, zero, suc, _+_, _*_, _/_, _%_, _^_, _≤_, _<_}
 use lib.ListN.{length, getD}
 use Rattle.sets.specs.Sets.{_⊆_, gathered}
-use Rattle.network.specs.Network.{listed}
-use Rattle.tables.specs.Tables.{Tabled}
-use Rattle.choice.specs.Choice.{Cover}
+use Rattle.network.specs.Network.{listed, Cover}
+use Rattle.network.specs.Tables.{Tabled}
 use Rattle.supports.specs.Questions.{rowOf}
 use Rattle.extraction.specs.declared.Outcome.{Outcome}
 use Rattle.extraction.specs.declared.Outcome.the-variants as Outcome
@@ -31,18 +30,18 @@ abbrev pub Picks : Graph → ℕ → ℕ → ℕ → Type 0
 Picks T j g x = Cover (listed 64 (T .gives) (rowOf (T .words) j)) (getD (T .members) j 0) g x
 
 -- what the vertices of x need
-abbrev pub needed : Graph → ℕ → ℕ
-needed T x = gathered 64 x (λ v. getD (T .needs) v 0)
+abbrev pub needsOf : Graph → ℕ → ℕ
+needsOf T x = gathered 64 x (λ v. getD (T .needs) v 0)
 
 -- g can be worked back k times
 unfoldable pub Back : Graph → ℕ → ℕ → Type 0
 Back T zero g = g ⊆ T .start
-Back T (suc j) g = (x : ℕ) × Picks T j g x × Back T j (needed T x)
+Back T (suc j) g = (x : ℕ) × Picks T j g x × Back T j (needsOf T x)
 
 -- the words 0 to k - 1 of p are the steps of selections by which g is worked back k times
 unfoldable pub Held : Graph → ℕ → ℕ → List ℕ → Type 0
 Held T zero g p = g ⊆ T .start
-Held T (suc j) g p = (x : ℕ) × Picks T j g x × (getD p j 0 ≡ x / 2 ^ 32) × Held T j (needed T x) p
+Held T (suc j) g p = (x : ℕ) × Picks T j g x × (getD p j 0 ≡ x / 2 ^ 32) × Held T j (needsOf T x) p
 
 -- there are at most 32 facts and 16 layers, needs are facts, the carriers are those of what is given and mutexes stand at both vertices,
 -- and what k rounds reach more rounds reach
@@ -84,7 +83,7 @@ StoredIf false k e old new = new ≡ old
 pub record Blocked (T : Graph) (j g may must why e : ℕ) : Type 0 where
   pub keeps : why ⊆ e
   pub part : e ⊆ g
-  pub blocked : (x : ℕ) → Picks T j e x → must ⊆ needed T x → needed T x ⊆ may → Back T j (needed T x) → ⊥
+  pub blocked : (x : ℕ) → Picks T j e x → must ⊆ needsOf T x → needsOf T x ⊆ may → Back T j (needsOf T x) → ⊥
 
 -- e, between why and g, which the start does not hold
 pub record Lacking (T : Graph) (g why e : ℕ) : Type 0 where
@@ -92,11 +91,11 @@ pub record Lacking (T : Graph) (g why e : ℕ) : Type 0 where
   pub part : e ⊆ g
   pub lacks : e ⊆ T .start → ⊥
 
-abbrev pub Refuses : Graph → ℕ → ℕ → ℕ → ℕ → ℕ → ℕ → Type 0
-Refuses T zero g may must why e = Lacking T g why e
-Refuses T (suc j) g may must why e = Blocked T j g may must why e
+abbrev pub Refutes : Graph → ℕ → ℕ → ℕ → ℕ → ℕ → ℕ → Type 0
+Refutes T zero g may must why e = Lacking T g why e
+Refutes T (suc j) g may must why e = Blocked T j g may must why e
 
 -- a plan of k rounds for g stands in p; or facts of g, with those of why, that the selections of the box cannot be worked back for
 abbrev pub Extracted : Graph → ℕ → ℕ → ℕ → ℕ → ℕ → List ℕ → Outcome → Type 0
 Extracted T k g may must why p Outcome.Made = Held T k g p
-Extracted T k g may must why p (Outcome.Refuted e) = Refuses T k g may must why e
+Extracted T k g may must why p (Outcome.Refuted e) = Refutes T k g may must why e

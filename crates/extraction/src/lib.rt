@@ -37,7 +37,7 @@ fn whole(may: u64, all: u64, must: u64) -> bool
 
 // The facts that may still be dropped: of those left, those that are still refuted; none where three
 // or fewer are refuted.
-fn trials(left: u64, refuted: u64) -> u64
+fn droppable(left: u64, refuted: u64) -> u64
     ensures { λ r. ⌜ (r ⊆ left) × (r ⊆ refuted) ⌝ }
 {
     if word::count(refuted) <= 3 {
@@ -71,7 +71,7 @@ fn dropped(
         return refuted;
     }
     let mut least = refuted;
-    let mut left = trials(refuted, refuted);
+    let mut left = droppable(refuted, refuted);
     while left != 0 {
         let b = word::lowest(left);
         let others = word::less(left, b);
@@ -96,7 +96,7 @@ fn dropped(
             continue;
         };
         least = e;
-        left = trials(others, e);
+        left = droppable(others, e);
     }
     least
 }

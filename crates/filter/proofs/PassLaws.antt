@@ -20,7 +20,7 @@ use Rattle.sets.proofs.Bits.{bit-and}
 use Rattle.sets.proofs.Made.{set-made}
 use Rattle.sets.proofs.Counts.{count-le, count-part, count-without}
 use Rattle.network.specs.Network.{Network}
-use Rattle.network.specs.Filter.{share, contribution, others, supported, pass, passes}
+use Rattle.filter.specs.Filter.{share, contribution, others, supported, pass, passes}
 
 -- an answer that is true at the very numbers at which a comparison holds
 pub same-test : (r : Bool) (a b : ℕ) → (a ≤ b → r ≡ true) → (b < a → r ≡ false) → r ≡ leb a b

@@ -1,2 +1,3 @@
--- What the tests of what is lent to a pass answer; the filter itself stands in crate network.
-pub mod Answers
+-- The projection filter; and what the code's types mean.
+pub mod Filter
+pub mod Meaning

@@ -1,9 +1,8 @@
 // What a caller lends to a pass beside the groups: the live set, for reason 12, and projection goals,
 // for reason 13.
 ghost use mathlib.Core.Path.{_≡_};
-ghost use Rattle.network.specs.Filter.{outside, badGoal, firstBad};
-ghost use Rattle.filter.specs.Answers.{goalsBy};
-use reading::item;
+ghost use Rattle.filter.specs.Filter.{outside, badGoal, firstBad};
+ghost use Rattle.filter.specs.Meaning.{goalsBy};
 use sets::word;
 
 // Whether all goals are in order.
@@ -16,7 +15,7 @@ pub enum Goals {
 pub fn outside(live: u64, n: usize) -> bool
     ensures { λ r. ⌜ r ≡ outside n live ⌝ }
 {
-    item::exceeds(live, n)
+    word::exceeds(live, n)
 }
 
 // Whether a goal is empty or not within the order.

@@ -9,7 +9,7 @@ ghost use lib.ListN.{length, getD};
 ghost use Rattle.sets.specs.Ranges.{given, sumTo, listTo};
 ghost use Rattle.sets.specs.Sets.{member, without, count};
 ghost use Rattle.network.specs.Network.{listed};
-ghost use Rattle.network.specs.Filter.{contribution, pass};
+ghost use Rattle.filter.specs.Filter.{contribution, pass};
 
 pub mod goals;
 

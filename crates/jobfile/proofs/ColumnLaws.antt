@@ -21,8 +21,8 @@ use Rattle.reading.specs.Got.{Got, got, refused, Reader, andThen, eachAt, upFro
 use Rattle.reading.specs.Items.{spots}
 use Rattle.jobfile.specs.Job.{Record}
 use Rattle.jobfile.specs.Read.{recordAt}
-use Rattle.reading.specs.Cursors.{readFrom}
-use Rattle.jobfile.specs.Answers.{layoutBy, setsBy, recordOf, recordFrom, Tidy, recordsOf, Column, Columns}
+use Rattle.reading.specs.Meaning.{readFrom}
+use Rattle.jobfile.specs.Meaning.{layoutBy, setsBy, recordOf, recordFrom, Tidy, recordsOf, Column, Columns}
 use Rattle.reading.proofs.StepLaws.{and-assoc, settled, advance}
 
 -- ---- columns

@@ -36,10 +36,10 @@ pub record Sound (layout : Layout) : Type 0 where
   pub longest : layout .longest < 256
 
 -- what is found in a list of layouts has the kind that was asked for, and is what all of them are
-pub found : (P : Layout → Type 0) (layouts : List Layout) (kind : ℕ) {layout : Layout} → All P layouts → layoutIn layouts kind ≡ some layout → (layout .kind ≡ kind) × P layout
+pub layout-found : (P : Layout → Type 0) (layouts : List Layout) (kind : ℕ) {layout : Layout} → All P layouts → layoutIn layouts kind ≡ some layout → (layout .kind ≡ kind) × P layout
 unfolding layoutIn
-found P [] kind all e = let z : _≡_ {A = ℕ} 0 1 = cc in absurd (omega arith)
-found P (x ∷ layouts) kind {layout} all e = go (eqb kind (x .kind)) refl e (found P layouts kind {layout = layout} (all .1))
+layout-found P [] kind all e = let z : _≡_ {A = ℕ} 0 1 = cc in absurd (omega arith)
+layout-found P (x ∷ layouts) kind {layout} all e = go (eqb kind (x .kind)) refl e (layout-found P layouts kind {layout = layout} (all .1))
   where
     go : (b : Bool) → eqb kind (x .kind) ≡ b → cond b (some x) (layoutIn layouts kind) ≡ some layout → (layoutIn layouts kind ≡ some layout → (layout .kind ≡ kind) × P layout) → (layout .kind ≡ kind) × P layout
     go true q e rest = let same : x ≡ layout = cc in rw (← same) (sym (eqb-true kind (x .kind) q), all .0)

@@ -14,7 +14,7 @@ use Rattle.reading.specs.Items.{bytesIn, spots, countAt, mapAt, setAt, lengthAt
 use Rattle.jobfile.specs.Layout.{Layout, nameBit, bits}
 use Rattle.jobfile.specs.Job.{Record, Job, namesOf}
 use Rattle.jobfile.specs.Read.{fieldsAt, recordAt, bodyAt, layoutAt, read, readJob}
-use Rattle.jobfile.specs.Answers.{spotIn, nameIn}
+use Rattle.jobfile.specs.Meaning.{spotIn, nameIn}
 
 -- the bytes at a spot
 abbrev pub bytesAt : List ℕ → Spot → List ℕ

@@ -26,8 +26,8 @@ use Rattle.reading.specs.Items.{Naming, spots, kindAt, countAt, setAt}
 use Rattle.jobfile.specs.Layout.{choice, fitting, kinds, layoutIn}
 use Rattle.jobfile.specs.Job.{Record, Job, namesOf, wishes, clashes, needs, gives, takes}
 use Rattle.jobfile.specs.Read.{recordAt, layoutAt, read, choices, fittings, either}
-use Rattle.reading.specs.Cursors.{gotBy, readFrom, finished, ended}
-use Rattle.jobfile.specs.Answers.{lensOf, spotOf, spotIn, recordFrom, recordsOf, Tidy, Column, Columns, padded, startsOf, choiceOf, fittingOf, Few, Within, ChoiceBounds, FittingBounds}
+use Rattle.reading.specs.Meaning.{gotBy, readFrom, finished, ended}
+use Rattle.jobfile.specs.Meaning.{lensOf, spotOf, spotIn, recordFrom, recordsOf, Tidy, Column, Columns, padded, startsOf, choiceRead, fittingRead, Few, NamesWithin, ChoiceBounds, FittingBounds}
 use Rattle.reading.proofs.StepLaws.{each-none, each-more}
 use Rattle.jobfile.proofs.StepLaws.{body-is, file-is}
 
@@ -53,7 +53,7 @@ padded-at size l h i = go (decLt i size)
 pub nothing-there : (i : ℕ) → getD (padded 64 []) i 0 ≡ 0
 nothing-there i = padded-at 64 [] zero-le i
 
-within-none : (end : ℕ) → Within end (padded 64 []) (padded 64 [])
+within-none : (end : ℕ) → NamesWithin end (padded 64 []) (padded 64 [])
 within-none end i = omega (arith, nothing-there i)
 
 tidy-within : (kind : Kind) (end third start len : ℕ) → Tidy kind end third start len → start + len ≤ end
@@ -92,16 +92,16 @@ module _ (f : List ℕ) (n w order : ℕ) (found : Records) (a b c d : Cursor)
       each)
 
   -- it was refused
-  pub choice-refused : {end : Cursor} {r : Refusal} {x : ReadChoice} → end ≡ finished (length f) (found .next) → end ≡ Cursor.Refused r → x ≡ choiceOf (refused (r .reason) (r .place))
-      → (x ≡ choiceOf (read spots choices f)) × ChoiceBounds f x
+  pub choice-refused : {end : Cursor} {r : Refusal} {x : ReadChoice} → end ≡ finished (length f) (found .next) → end ≡ Cursor.Refused r → x ≡ choiceRead (refused (r .reason) (r .place))
+      → (x ≡ choiceRead (read spots choices f)) × ChoiceBounds f x
   choice-refused {end} {r} {x} e q h =
       let told = end-refused choiceJob f (found .next) e choice-read q in
-      (h ∙ ap choiceOf told, rw h (zero-le, zero-le, within-none (length f), subst (Few 64) told tt))
+      (h ∙ ap choiceRead told, rw h (zero-le, zero-le, within-none (length f), subst (Few 64) told tt))
 
   -- it was accepted
   pub choice-accepted : {end : Cursor} {at : ℕ} → end ≡ finished (length f) (found .next) → end ≡ Cursor.At at → n ≤ 64 → w ≤ 64 → Columns Choice n (length f) found
       → let x : ReadChoice = record { verdict = Verdict.Accepted; articles = n; «wish_count» = w; order = order; wishes = found .first; clashes = found .second; starts = found .starts; lens = found .lens } in
-      (x ≡ choiceOf (read spots choices f)) × ChoiceBounds f x
+      (x ≡ choiceRead (read spots choices f)) × ChoiceBounds f x
   unfolding choiceJob
   choice-accepted {end} {at} e q ln lw ok =
       let told = end-reached choiceJob f (found .next) e choice-read q in
@@ -114,7 +114,7 @@ module _ (f : List ℕ) (n w order : ℕ) (found : Records) (a b c d : Cursor)
             ∙ ap (λ (l : List ℕ). record { verdict = Verdict.Accepted; articles = n; «wish_count» = w; order = order; wishes = padded 64 (wishes choiceJob); clashes = l; starts = found .starts; lens = found .lens }) two
             ∙ ap (λ (l : List ℕ). record { verdict = Verdict.Accepted; articles = n; «wish_count» = w; order = order; wishes = padded 64 (wishes choiceJob); clashes = padded 64 (clashes choiceJob); starts = l; lens = found .lens }) starts
             ∙ ap (λ (l : List ℕ). record { verdict = Verdict.Accepted; articles = n; «wish_count» = w; order = order; wishes = padded 64 (wishes choiceJob); clashes = padded 64 (clashes choiceJob); starts = padded 64 (startsOf (choiceJob .records)); lens = l }) lens
-            ∙ ap choiceOf told,
+            ∙ ap choiceRead told,
         (ln, lw, λ i. tidy-within Choice (length f) _ _ _ (ok .tidy i), subst (Few 64) told (list-length n from, ln)),
       )
 
@@ -138,15 +138,15 @@ module _ (f : List ℕ) (n m rounds begin goal : ℕ) (found : Records) (a b c d
       (each-more (λ bytes. setAt bytes m) f 4 [] goal [] g g e₁ aim (each-none (λ bytes. setAt bytes m) f g)))
       each)
 
-  pub fitting-refused : {end : Cursor} {r : Refusal} {x : ReadFitting} → end ≡ finished (length f) (found .next) → end ≡ Cursor.Refused r → x ≡ fittingOf (refused (r .reason) (r .place))
-      → (x ≡ fittingOf (read spots fittings f)) × FittingBounds f x
+  pub fitting-refused : {end : Cursor} {r : Refusal} {x : ReadFitting} → end ≡ finished (length f) (found .next) → end ≡ Cursor.Refused r → x ≡ fittingRead (refused (r .reason) (r .place))
+      → (x ≡ fittingRead (read spots fittings f)) × FittingBounds f x
   fitting-refused {end} {r} {x} e q h =
       let told = end-refused fittingJob f (found .next) e fitting-read q in
-      (h ∙ ap fittingOf told, rw h (zero-le, zero-le, zero-le, within-none (length f), subst (Few 32) told tt))
+      (h ∙ ap fittingRead told, rw h (zero-le, zero-le, zero-le, within-none (length f), subst (Few 32) told tt))
 
   pub fitting-accepted : {end : Cursor} {at : ℕ} → end ≡ finished (length f) (found .next) → end ≡ Cursor.At at → n ≤ 32 → m ≤ 32 → rounds ≤ 16 → Columns Fitting n (length f) found
       → let x : ReadFitting = record { verdict = Verdict.Accepted; steps = n; facts = m; horizon = rounds; start = begin; goal = goal; needs = found .first; gives = found .second; takes = found .third; starts = found .starts; lens = found .lens } in
-      (x ≡ fittingOf (read spots fittings f)) × FittingBounds f x
+      (x ≡ fittingRead (read spots fittings f)) × FittingBounds f x
   unfolding fittingJob
   fitting-accepted {end} {at} e q ln lm lr ok =
       let told = end-reached fittingJob f (found .next) e fitting-read q in
@@ -162,7 +162,7 @@ module _ (f : List ℕ) (n m rounds begin goal : ℕ) (found : Records) (a b c d
             ∙ ap (λ (l : List ℕ). record { verdict = Verdict.Accepted; steps = n; facts = m; horizon = rounds; start = begin; goal = goal; needs = padded 64 (needs fittingJob); gives = padded 64 (gives fittingJob); takes = l; starts = found .starts; lens = found .lens }) three
             ∙ ap (λ (l : List ℕ). record { verdict = Verdict.Accepted; steps = n; facts = m; horizon = rounds; start = begin; goal = goal; needs = padded 64 (needs fittingJob); gives = padded 64 (gives fittingJob); takes = padded 64 (takes fittingJob); starts = l; lens = found .lens }) starts
             ∙ ap (λ (l : List ℕ). record { verdict = Verdict.Accepted; steps = n; facts = m; horizon = rounds; start = begin; goal = goal; needs = padded 64 (needs fittingJob); gives = padded 64 (gives fittingJob); takes = padded 64 (takes fittingJob); starts = padded 64 (startsOf (fittingJob .records)); lens = l }) lens
-            ∙ ap fittingOf told,
+            ∙ ap fittingRead told,
         (ln, lm, lr, λ i. tidy-within Fitting (length f) 0 _ _ (ok .tidy i), subst (Few 32) told (list-length n from, ln)),
       )
 
@@ -222,10 +222,10 @@ spot-at records few i = go (decLt i 64)
         let none = List·getD-eq-default (namesOf records) (spots .absent) {n = i} (omega (arith, length-names records)) in
         both _ _ (list-past 64 (λ j. getD (startsOf records) j 0) 0 i (omega arith) ∙ sym (ap (λ (s : Spot). s .start) none)) (list-past 64 (λ j. getD (lensOf records) j 0) 0 i (omega arith) ∙ sym (ap (λ (s : Spot). s .len) none))
 
-pub choice-spot : (g : Got (Job Spot)) → Few 64 g → (i : ℕ) → spotOf (choiceOf g .starts) (choiceOf g .lens) i ≡ spotIn g i
+pub choice-spot : (g : Got (Job Spot)) → Few 64 g → (i : ℕ) → spotOf (choiceRead g .starts) (choiceRead g .lens) i ≡ spotIn g i
 choice-spot (refused reason place) few i = spot-at [] zero-le i
 choice-spot (got job end) few i = spot-at (job .records) (omega (arith, few .0, few .1)) i
 
-pub fitting-spot : (g : Got (Job Spot)) → Few 32 g → (i : ℕ) → spotOf (fittingOf g .starts) (fittingOf g .lens) i ≡ spotIn g i
+pub fitting-spot : (g : Got (Job Spot)) → Few 32 g → (i : ℕ) → spotOf (fittingRead g .starts) (fittingRead g .lens) i ≡ spotIn g i
 fitting-spot (refused reason place) few i = spot-at [] zero-le i
 fitting-spot (got job end) few i = spot-at (job .records) (omega (arith, few .0, few .1)) i

@@ -15,7 +15,7 @@ use Rattle.reading.specs.Items.{Naming, kindAt, countAt, mapAt, setAt, nameAt}
 use Rattle.jobfile.specs.Layout.{Field, Layout, nameBit, bits, layoutOf}
 use Rattle.jobfile.specs.Job.{Record, Job}
 use Rattle.jobfile.specs.Read.{itemAt, fieldsAt, recordAt, bodyAt, layoutOr, layoutAt, read}
-use Rattle.reading.specs.Cursors.{gotBy, readFrom, finished, ended}
+use Rattle.reading.specs.Meaning.{gotBy, readFrom, finished, ended}
 use Rattle.reading.proofs.StepLaws.{and-assoc, settled, join}
 
 -- ---- records

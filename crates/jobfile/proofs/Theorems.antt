@@ -20,7 +20,7 @@ use Rattle.jobfile.specs.Write.{writeBody, writeBy, write}
 use Rattle.jobfile.specs.Valid.{Bytes, Valid}
 use Rattle.jobfile.proofs.Lawful.{Lawful, All, then-got, refuse-got, same-value, refused-lawful, seq-lawful, restate, reread}
 use Rattle.jobfile.proofs.ItemLaws.{kind-lawful}
-use Rattle.jobfile.proofs.FileLaws.{Sound, kinds-sound, found, Body, body-lawful}
+use Rattle.jobfile.proofs.FileLaws.{Sound, kinds-sound, layout-found, Body, body-lawful}
 
 -- ---- for any list of sound layouts
 
@@ -36,11 +36,11 @@ restBy (some layout) job = writeBody layout job
 module _ (layouts : List Layout) (sound : All Sound layouts) where
   by-lawful : (kind : ℕ) (l : Option Layout) → layoutIn layouts kind ≡ l → Lawful (λ f at. andThen (layoutOr l at) λ layout a. bodyAt (bytesIn f) layout f a) (restBy l) (BodyBy l)
   by-lawful kind none e = refused-lawful WrongKind 0 (λ job. [])
-  by-lawful kind (some layout) e = body-lawful layout (found Sound layouts kind sound e .1)
+  by-lawful kind (some layout) e = body-lawful layout (layout-found Sound layouts kind sound e .1)
 
   by-kind : (kind : ℕ) (l : Option Layout) → layoutIn layouts kind ≡ l → (job : Job (List ℕ)) → BodyBy l job → job .kind ≡ kind
   by-kind kind none e job o = absurd o
-  by-kind kind (some layout) e job o = o .kind ∙ found Sound layouts kind sound e .0
+  by-kind kind (some layout) e job o = o .kind ∙ layout-found Sound layouts kind sound e .0
 
   -- a file of a kind that the call takes, up to its end
   pub file-lawful : (takes : ℕ → Bool)
@@ -56,7 +56,7 @@ by-valid job none e o = absurd o
 by-valid job (some layout) e o = record { layout = layout; known = e; counts = o .counts; heads = o .heads; size = o .size; records = o .records }
 
 valid-by : (job : Job (List ℕ)) → Valid job → BodyBy (layoutOf (job .kind)) job
-valid-by job o = rw (o .known) (record { kind = sym (found Sound kinds (job .kind) kinds-sound (o .known) .0); counts = o .counts; heads = o .heads; size = o .size; records = o .records })
+valid-by job o = rw (o .known) (record { kind = sym (layout-found Sound kinds (job .kind) kinds-sound (o .known) .0); counts = o .counts; heads = o .heads; size = o .size; records = o .records })
 
 by-written : (job : Job (List ℕ)) (l : Option Layout) → BodyBy l job → job .kind ∷ restBy l job ≡ writeBy l job
 by-written job none o = absurd o

@@ -5,4 +5,4 @@ pub mod Job
 pub mod Read
 pub mod Write
 pub mod Valid
-pub mod Answers
+pub mod Meaning

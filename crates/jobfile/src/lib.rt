@@ -8,7 +8,7 @@ ghost use lib.ListN.{length, getD};
 ghost use Rattle.reading.specs.Got.{refused};
 ghost use Rattle.reading.specs.Items.{spots};
 ghost use Rattle.jobfile.specs.Read.{read, choices, fittings, either};
-ghost use Rattle.jobfile.specs.Answers.{choiceOf, fittingOf, spotOf, spotIn, ChoiceBounds, FittingBounds};
+ghost use Rattle.jobfile.specs.Meaning.{choiceRead, fittingRead, spotOf, spotIn, ChoiceBounds, FittingBounds};
 
 pub mod records;
 
@@ -54,7 +54,7 @@ pub struct ReadFitting {
 
 // A choice file that is refused.
 fn no_choice(refusal: Refusal) -> ReadChoice
-    ensures { λ r. ⌜ r ≡ choiceOf (refused (refusal .reason) (refusal .place)) ⌝ }
+    ensures { λ r. ⌜ r ≡ choiceRead (refused (refusal .reason) (refusal .place)) ⌝ }
 {
     ReadChoice {
         verdict: Verdict::Refused(refusal),
@@ -70,7 +70,7 @@ fn no_choice(refusal: Refusal) -> ReadChoice
 
 // A fitting file that is refused.
 fn no_fitting(refusal: Refusal) -> ReadFitting
-    ensures { λ r. ⌜ r ≡ fittingOf (refused (refusal .reason) (refusal .place)) ⌝ }
+    ensures { λ r. ⌜ r ≡ fittingRead (refused (refusal .reason) (refusal .place)) ⌝ }
 {
     ReadFitting {
         verdict: Verdict::Refused(refusal),
@@ -89,7 +89,7 @@ fn no_fitting(refusal: Refusal) -> ReadFitting
 
 // Reads a choice file. The names stand within it, and the counts keep to their limits.
 pub fn read_choice(file: &[u8]) -> ReadChoice
-    ensures { λ r. ⌜ r ≡ choiceOf (read spots choices (now (file .entry))) ⌝ }
+    ensures { λ r. ⌜ r ≡ choiceRead (read spots choices (now (file .entry))) ⌝ }
     ensures { λ r. ⌜ ChoiceBounds (now (file .entry)) r ⌝ }
 {
     let a = item::kind(file, 67);
@@ -127,7 +127,7 @@ pub fn read_choice(file: &[u8]) -> ReadChoice
 
 // Reads a fitting file, likewise.
 pub fn read_fitting(file: &[u8]) -> ReadFitting
-    ensures { λ r. ⌜ r ≡ fittingOf (read spots fittings (now (file .entry))) ⌝ }
+    ensures { λ r. ⌜ r ≡ fittingRead (read spots fittings (now (file .entry))) ⌝ }
     ensures { λ r. ⌜ FittingBounds (now (file .entry)) r ⌝ }
 {
     let a = item::kind(file, 70);

@@ -17,12 +17,12 @@ use Rattle.sets.proofs.Ranges.{both-true, same-true, num-le, num-both, every-at
 use Rattle.sets.proofs.Bits.{ext, bit-le, bit-cases, bit-empty, bit-and, bit-without, bit-full, full-below, member-yes, yes-member, num-member, part-in, in-part, part-yes, yes-part, part-full, part-below, member-below, without-in, in-without, without-le, meets-no, no-meets, in-less, less-in}
 use Rattle.sets.proofs.Made.{set-below, set-bit, set-in, in-set, gathered-at, gathered-from}
 use Rattle.sets.proofs.Lowest.{lowest-below, lowest-member}
-use Rattle.jobfile.specs.Answers.{padded}
-use Rattle.tables.specs.Tables.{transposed}
-use Rattle.tables.proofs.TableLaws.{turned-at}
+use Rattle.jobfile.specs.Meaning.{padded}
+use Rattle.sets.specs.Tables.{transposed}
+use Rattle.sets.proofs.Tables.{turned-at}
 use Rattle.planning.specs.Rounds.{Steps, listedSteps}
 use Rattle.planning.specs.Layers.{mutexWith, mutexes, givers, excluded, givenBy, factsOver}
-use Rattle.layers.specs.Drawn.{layer, roomy}
+use Rattle.layers.specs.Meaning.{layer, roomy}
 use Rattle.layers.proofs.SetCode.{member-bit, set-by-bits, bit-less, gathered-meets}
 
 -- ---- the givers of each fact

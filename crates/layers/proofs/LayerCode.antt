@@ -16,7 +16,7 @@ use Rattle.jobfile.proofs.ReadLaws.{padded-at}
 use Rattle.planning.specs.Rounds.{Steps, Fitting, listedSteps, disturb}
 use Rattle.planning.specs.Layers.{Layer, mutexes, vertices, opposed, stands, rivals, standing, roundOver, givers, excluded, givenBy, factsOver, factLayer, roundLayer}
 use Rattle.planning.specs.Back.{Sized}
-use Rattle.layers.specs.Drawn.{layer, roomy, vertexWords}
+use Rattle.layers.specs.Meaning.{layer, roomy, vertexWords}
 use Rattle.planning.proofs.WordLaws.{words-length}
 
 -- ---- vertices

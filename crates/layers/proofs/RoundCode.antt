@@ -18,7 +18,7 @@ use Rattle.sets.proofs.Bits.{bit-le, bit-and, bit-or, member-yes, member-no, me
 use Rattle.sets.proofs.Made.{gathered-part}
 use Rattle.planning.specs.Rounds.{Steps, listedSteps, disturb}
 use Rattle.planning.specs.Layers.{mutexWith, mutexWord, Layer, mutexes, opposed, stands, rivals, standing, roundOver}
-use Rattle.layers.specs.Drawn.{layer, vertexWords, uses}
+use Rattle.layers.specs.Meaning.{layer, vertexWords, uses}
 use Rattle.layers.proofs.SetCode.{member-bit, set-by-bits, bit-less}
 
 -- ---- a table of steps as one of vertices

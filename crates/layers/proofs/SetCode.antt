@@ -14,8 +14,8 @@ use Rattle.sets.specs.Sets.{bit, _∈_, member, without, meets, setOf, gathered
 use Rattle.sets.proofs.Ranges.{both-true, true-both, same-true, same-false, same-yes, same-no, given-yes, given-le}
 use Rattle.sets.proofs.Bits.{ext-below, bit-without, bit-one, only-one, bit-other, not-in, member-below, member-yes, yes-member, member-no, num-member, not-member, part-in, meets-no, no-meets}
 use Rattle.sets.proofs.Made.{set-below, set-bit, given-in, gathered-at, gathered-from, gathered-below}
-use Rattle.tables.specs.Tables.{transposed}
-use Rattle.tables.proofs.TableLaws.{turned-at}
+use Rattle.sets.specs.Tables.{transposed}
+use Rattle.sets.proofs.Tables.{turned-at}
 
 -- a bit by its test
 pub member-bit : (s i : ℕ) {b : Bool} → member s i ≡ b → bit s i ≡ num b

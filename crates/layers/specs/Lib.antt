@@ -1,2 +1,2 @@
 -- What the code's types mean.
-pub mod Drawn
+pub mod Meaning

@@ -6,11 +6,11 @@ ghost use Prim.Native.Nat.{_<_};
 ghost use lib.ListN.{getD};
 ghost use Rattle.sets.specs.Ranges.{everyTo};
 ghost use Rattle.sets.specs.Sets.{member, meets, setOf, gathered};
-ghost use Rattle.jobfile.specs.Answers.{padded};
-ghost use Rattle.tables.specs.Tables.{transposed};
+ghost use Rattle.jobfile.specs.Meaning.{padded};
+ghost use Rattle.sets.specs.Tables.{transposed};
 ghost use Rattle.planning.specs.Rounds.{listedSteps};
 ghost use Rattle.planning.specs.Layers.{mutexWith, mutexWord, mutexes, excluded};
-ghost use Rattle.layers.specs.Drawn.{layer};
+ghost use Rattle.layers.specs.Meaning.{layer};
 use sets::word;
 
 // Those that are mutex with all members of the set.

@@ -8,12 +8,13 @@ ghost use lib.ListN.{getD};
 ghost use Rattle.sets.specs.Ranges.{listTo};
 ghost use Rattle.planning.specs.Rounds.{listedSteps};
 ghost use Rattle.planning.specs.Layers.{roundOver, factsOver};
-ghost use Rattle.layers.specs.Drawn.{layer, roomy, vertexWords};
+ghost use Rattle.layers.specs.Meaning.{layer, roomy, vertexWords};
 
 mod facts;
 mod rounds;
 mod vertices;
 
+use sets::table;
 use sets::word;
 
 // The members of a layer, and for each of them those that it is mutex with.
@@ -63,7 +64,7 @@ pub fn facts_over(gives: &[u64; 64], below: Layer) -> Layer
 {
     let words = below.words;
     let members = word::gather(gives, below.members);
-    let turned = tables::transposed(gives);
+    let turned = table::transposed(gives);
     let mutex = facts::words(gives, &turned, &words, below.members, members);
     Layer {
         members: members,

@@ -6,10 +6,11 @@ ghost use Prim.Native.Nat.{ℕ, _+_, _^_, _≤_, _<_};
 ghost use lib.ListN.{getD};
 ghost use Rattle.sets.specs.Ranges.{listTo};
 ghost use Rattle.sets.specs.Sets.{member, meets, setOf};
-ghost use Rattle.tables.specs.Tables.{transposed};
+ghost use Rattle.sets.specs.Tables.{transposed};
 ghost use Rattle.planning.specs.Rounds.{listedSteps};
 ghost use Rattle.planning.specs.Layers.{mutexWith, mutexWord, mutexes, stands, standing, rivals};
-ghost use Rattle.layers.specs.Drawn.{layer, uses, Turned};
+ghost use Rattle.layers.specs.Meaning.{layer, uses, Turned};
+use sets::table;
 use sets::word;
 
 // Whether a vertex may stand over the facts and their mutex words.
@@ -167,9 +168,9 @@ pub fn words(
     ensures { λ r. ⌜ r ≡ mutexes 64 members (rivals 32 (listedSteps (now (needs .entry)) (now (gives .entry)) (now (takes .entry))) (layer 0 (now (words .entry)))) ⌝ }
 {
     let uses = used(needs, gives);
-    let users = tables::transposed(&uses);
-    let takers = tables::transposed(takes);
-    let needers = tables::transposed(needs);
+    let users = table::transposed(&uses);
+    let takers = table::transposed(takes);
+    let needers = table::transposed(needs);
     words_by(
         needs,
         gives,

@@ -2,7 +2,7 @@
 ghost use mathlib.Core.Path.{_≡_};
 ghost use Prim.Native.Nat.{_<_};
 ghost use Rattle.sets.specs.Ranges.{listTo};
-ghost use Rattle.layers.specs.Drawn.{vertexWords};
+ghost use Rattle.layers.specs.Meaning.{vertexWords};
 use sets::word;
 
 // What vertex x has: a keeper its own fact, or nothing; a step its word.

@@ -13,9 +13,8 @@ use borrow.Author.Tests.{eq-eqb, eqb-true}
 use Rattle.sets.specs.First.{firstFrom}
 use Rattle.sets.proofs.Ranges.{test-cases, both-true, list-at}
 use Rattle.sets.proofs.First.{first-cong}
-use Rattle.jobfile.specs.Answers.{padded}
-use Rattle.names.specs.Same.{sameList, sameName}
-use Rattle.names.specs.Names.{lowestNamed}
+use Rattle.jobfile.specs.Meaning.{padded}
+use Rattle.names.specs.Names.{sameList, sameName, lowestNamed}
 
 -- ---- lists
 

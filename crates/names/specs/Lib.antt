@@ -1,3 +1,4 @@
 -- Names and likeness, in the order of docs/RULES.md, "Names and comparison".
-pub mod Same
 pub mod Names
+pub mod Likeness
+pub mod Meaning

@@ -1,3 +1,54 @@
-// What files that were read have in common: the search for a name, and likeness.
+// Names of a file that was read: when two are equal, and who has a name; and when two files are alike.
+ghost use mathlib.Core.Path.{_≡_};
+ghost use Prim.Native.Nat.{_+_, _≤_};
+ghost use lib.ListN.{length, getD, take, drop};
+ghost use Rattle.jobfile.specs.Meaning.{NamesWithin};
+ghost use Rattle.names.specs.Names.{sameName, lowestNamed};
+ghost use Rattle.names.specs.Meaning.{holderOf};
+
 pub mod likeness;
-pub mod names;
+
+// The number of an article or step, or that none has the name.
+pub enum Holder {
+    Number(usize),
+    Nobody,
+}
+
+// Whether two names are equal.
+pub fn same_name(a: &[u8], b: &[u8]) -> bool
+    ensures { λ r. ⌜ r ≡ sameName (now (a .entry)) (now (b .entry)) ⌝ }
+{
+    let n = a.len();
+    if n != b.len() {
+        return false;
+    }
+    let mut i: usize = 0;
+    while i < n {
+        if a[i] != b[i] {
+            return false;
+        }
+        i += 1;
+    }
+    true
+}
+
+// The lowest of the first n numbers with this name; an empty name is nobody's.
+pub fn search(file: &[u8], starts: [usize; 64], lens: [usize; 64], n: usize, name: &[u8]) -> Holder
+    requires { ⌜ (n ≤ 64) × NamesWithin (length (now file)) starts lens ⌝ }
+    ensures { λ r. ⌜ holderOf r ≡ lowestNamed (now (name .entry)) n (λ i. take (getD lens i 0) (drop (getD starts i 0) (now (file .entry)))) ⌝ }
+{
+    if name.len() == 0 {
+        return Holder::Nobody;
+    }
+    let mut left = n;
+    while 0 < left {
+        let i = n - left;
+        let a = starts[i];
+        let e = a + lens[i];
+        if same_name(&file[a..e], name) {
+            return Holder::Number(i);
+        }
+        left -= 1;
+    }
+    Holder::Nobody
+}

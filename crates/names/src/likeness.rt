@@ -2,7 +2,7 @@
 ghost use mathlib.Core.Path.{_≡_};
 ghost use mathlib.Core.Bool.{_&&_};
 ghost use lib.Dec.{eqb};
-ghost use Rattle.names.specs.Same.{sameList};
+ghost use Rattle.names.specs.Names.{sameList};
 use jobfile::ReadChoice;
 
 // Whether two arrays hold the same words.

@@ -1,9 +1,8 @@
--- Theorems on groups and on the filter.
+-- Theorems on networks and groups.
 pub mod NetworkLaws
 pub mod GroupLaws
 pub mod MaskLaws
 pub mod LentLaws
-pub mod FilterLaws
 pub mod PartitionLaws
-pub mod GoalLaws
 pub mod ListedLaws
+pub mod TableLaws

@@ -6,7 +6,7 @@ ghost use lib.ListN.{length, getD};
 ghost use Rattle.sets.specs.Ranges.{listTo};
 ghost use Rattle.network.specs.Network.{listed};
 ghost use Rattle.network.specs.Groups.{misplaced, firstMisplaced, grouped};
-ghost use Rattle.network.specs.Answers.{lentBy};
+ghost use Rattle.network.specs.Meaning.{lentBy};
 
 // Whether a lent partition is one.
 pub enum Lent {

@@ -9,7 +9,7 @@ use lib.Seq.{length-take-le, take-all, take-add, take-take, take-append-le, drop
 use Rattle.sets.proofs.Ranges.{one-more}
 use Rattle.planning.specs.Rounds.{Fitting}
 use Rattle.planning.specs.Layers.{Layer}
-use Rattle.layers.specs.Drawn.{layer}
+use Rattle.layers.specs.Meaning.{layer}
 use Rattle.supports.specs.Questions.{rowOf}
 use Rattle.planner.specs.Tabulated.{roundAfter, Laid, Put}
 

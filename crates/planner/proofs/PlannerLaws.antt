@@ -15,19 +15,20 @@ use Rattle.sets.specs.Sets.{bit, _⊆_, member, full, gathered}
 use Rattle.sets.proofs.Ranges.{list-length, list-at, list-past}
 use Rattle.sets.proofs.Bits.{ext-below, num-member, part-full}
 use Rattle.sets.proofs.Made.{set-below, set-bit}
-use Rattle.network.specs.Network.{Network, listed, clash}
-use Rattle.tables.specs.Tables.{transposed, bothWays}
-use Rattle.tables.proofs.TableLaws.{bothRow, filled-end}
-use Rattle.choice.specs.Choice.{Cover}
+use Rattle.network.specs.Network.{Network, listed, clash, Cover}
+use Rattle.sets.specs.Tables.{transposed}
+use Rattle.network.specs.Tables.{bothWays}
+use Rattle.sets.proofs.Filled.{filled-end}
+use Rattle.network.proofs.TableLaws.{bothRow}
 use Rattle.planning.specs.Rounds.{Fitting, run, Plan, fewest}
 use Rattle.planning.specs.Layers.{vertices, rivals, standing, roundOver, factLayer}
-use Rattle.planning.specs.Back.{layerNetwork, Selects, needed as neededBy, stepsOf, Reaches, Sized}
+use Rattle.planning.specs.Back.{layerNetwork, Selects, needed, stepsOf, Reaches, Sized}
 use Rattle.planning.proofs.PlanLaws.{PlanOf, none-fewest, some-fewest, reaches-more}
 use Rattle.planning.proofs.WordLaws.{words-length, rounds-words, rounds-turned}
 use Rattle.planning.proofs.LayerLaws.{roomy}
 use Rattle.planning.proofs.BackLaws.{reaches-plan, forth, back}
 use Rattle.supports.specs.Questions.{rowOf}
-use Rattle.extraction.specs.Extraction.{Graph, graph, Picks, needed, Back, Held, Fine}
+use Rattle.extraction.specs.Extraction.{Graph, graph, Picks, needsOf, Back, Held, Fine}
 use Rattle.planner.specs.Planner.{plannedBy, Words}
 use Rattle.planner.specs.Tabulated.{roundAfter, Tabulated, Laid, Unplanned, Searched}
 use Rattle.planner.specs.declared.Planned.{Planned}
@@ -112,8 +113,8 @@ module _ (F : Fitting) (h : ℕ) (T : Graph) (ok : Tabulated F h T) where
   pub selects-picks : (j g x : ℕ) → j < h → Selects 32 F (roundAfter F j) g x → Picks T j g x
   selects-picks j g x l p = subst (λ (X : Type 0). X) (sym (picks-same j g x l)) p
 
-  pub needed-same : (x : ℕ) → needed T x ≡ neededBy 32 F x
-  unfolding neededBy
+  pub needed-same : (x : ℕ) → needsOf T x ≡ needed 32 F x
+  unfolding needed
   needed-same x = λ i. gathered 64 x (λ v. needs-at v i)
 
   -- ---- what is worked back is reached, and what is reached can be worked back
@@ -122,7 +123,7 @@ module _ (F : Fitting) (h : ℕ) (T : Graph) (ok : Tabulated F h T) where
   unfolding Back run
   back-reaches zero g l b = ([], record { rounds = tt; reached = subst (λ (s : ℕ). g ⊆ s) (ok .start) b; many = refl })
   back-reaches (suc j) g l (x, p, b) =
-      let (rs, r) = back-reaches j (needed T x) (omega arith) b in
+      let (rs, r) = back-reaches j (needsOf T x) (omega arith) b in
       (rs ++ (stepsOf 32 x ∷ []), forth 32 F (ok .sized) j g x rs (picks-selects j g x (omega arith) p) (subst (λ (n : ℕ). Reaches F j n rs) (needed-same x) r))
 
   -- so that without a plan no count of rounds works the goal back
@@ -136,7 +137,7 @@ module _ (F : Fitting) (h : ℕ) (T : Graph) (ok : Tabulated F h T) where
   reaches-back zero g l (q ∷ rs) r = absurd (omega (arith, r .many))
   reaches-back (suc j) g l rs r =
       let (x, sel, (qs, rest)) = back 32 F (ok .sized) j g rs r in
-      (x, selects-picks j g x (omega arith) sel, reaches-back j (needed T x) (omega arith) qs (subst (λ (n : ℕ). Reaches F j n qs) (sym (needed-same x)) rest))
+      (x, selects-picks j g x (omega arith) sel, reaches-back j (needsOf T x) (omega arith) qs (subst (λ (n : ℕ). Reaches F j n qs) (sym (needed-same x)) rest))
 
   -- more rounds reach it as well
   later : (d k r g : ℕ) → k + d ≡ r → r ≤ h → Back T k g → Back T r g
@@ -150,7 +151,7 @@ module _ (F : Fitting) (h : ℕ) (T : Graph) (ok : Tabulated F h T) where
   unfolding Held run
   held-reaches zero g q l m b = record { rounds = tt; reached = subst (λ (s : ℕ). g ⊆ s) (ok .start) b; many = refl }
   held-reaches (suc j) g q l m (x, p, e, b) =
-      let r = held-reaches j (needed T x) q (omega arith) (omega arith) b in
+      let r = held-reaches j (needsOf T x) q (omega arith) (omega arith) b in
       let same : take j q ++ (stepsOf 32 x ∷ []) ≡ take (suc j) q = ap (λ (y : ℕ). take j q ++ (y ∷ [])) (sym e) ∙ sym (take-suc q j 0 (omega arith)) in
       subst (Reaches F (suc j) g) same
       (forth 32 F (ok .sized) j g x (take j q) (picks-selects j g x (omega arith) p) (subst (λ (n : ℕ). Reaches F j n (take j q)) (needed-same x) r))
@@ -158,7 +159,7 @@ module _ (F : Fitting) (h : ℕ) (T : Graph) (ok : Tabulated F h T) where
   held-back : (k g : ℕ) (q : List ℕ) → Held T k g q → Back T k g
   unfolding Held Back
   held-back zero g q b = b
-  held-back (suc j) g q (x, p, e, b) = (x, p, held-back j (needed T x) q b)
+  held-back (suc j) g q (x, p, e, b) = (x, p, held-back j (needsOf T x) q b)
 
   -- ---- extraction may work on these tables
 

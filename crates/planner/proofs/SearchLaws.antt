@@ -6,7 +6,7 @@ use native.Mathlib.Omega.{arith}
 use lib.ListN.{length, getD, drop, set}
 use lib.Seq.{getD-set-same, getD-set-other, drop-set-lt}
 use Rattle.sets.proofs.Ranges.{one-more}
-use Rattle.extraction.specs.Extraction.{Graph, needed, Back, Held, Fine, Refuses}
+use Rattle.extraction.specs.Extraction.{Graph, needsOf, Back, Held, Fine, Refutes}
 use Rattle.extraction.proofs.ExtractLaws.{back-part, refuses-whole}
 
 -- one word more is copied: the words before it and those from k on are other words
@@ -24,10 +24,10 @@ module _ (T : Graph) where
   pub held-same : (k g : ℕ) (p q : List ℕ) → ((i : ℕ) → i < k → getD q i 0 ≡ getD p i 0) → Held T k g p → Held T k g q
   unfolding Held
   held-same zero g p q same h = h
-  held-same (suc j) g p q same (x, c, e, h) = (x, c, same j (omega arith) ∙ e, held-same j (needed T x) p q (λ i l. same i (omega arith)) h)
+  held-same (suc j) g p q same (x, c, e, h) = (x, c, same j (omega arith) ∙ e, held-same j (needsOf T x) p q (λ i l. same i (omega arith)) h)
 
   -- one count more is refused: what works the goal back would work back the refused part of it
-  pub refused-more : (carriers : List ℕ) → Fine T carriers → (k g e : ℕ) → Refuses T k g (T .all) 0 0 e → ((i : ℕ) → i < k → Back T i g → ⊥)
+  pub refused-more : (carriers : List ℕ) → Fine T carriers → (k g e : ℕ) → Refutes T k g (T .all) 0 0 e → ((i : ℕ) → i < k → Back T i g → ⊥)
       → (i : ℕ) → i < k + 1 → Back T i g → ⊥
   refused-more carriers fine k g e r none =
       let (part, out) = refuses-whole T carriers fine k g 0 e r in

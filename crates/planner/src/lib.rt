@@ -5,13 +5,14 @@ ghost use Prim.Native.Nat.{_≤_};
 ghost use lib.ListN.{length};
 ghost use Rattle.planning.specs.Rounds.{fewest};
 ghost use Rattle.planning.specs.Back.{Sized};
-ghost use Rattle.layers.specs.Drawn.{fittingIn};
+ghost use Rattle.layers.specs.Meaning.{fittingIn};
 ghost use Rattle.planner.specs.Planner.{plannedBy, Words};
 
-mod layers;
 mod search;
+mod tabulated;
 
 use jobfile::ReadFitting;
+use sets::table;
 
 // How many rounds a plan has, or that there is no plan.
 pub enum Planned {
@@ -30,8 +31,8 @@ pub fn plan(job: ReadFitting, out: &mut [u32]) -> Planned
     let b = job.gives;
     let needs = layers::with_keepers(&a);
     let gives = layers::with_keepers(&b);
-    let carriers = tables::transposed(&gives);
-    let made = layers::layers(job);
+    let carriers = table::transposed(&gives);
+    let made = tabulated::round_layers(job);
     let members = made.members;
     let words = made.words;
     let h = job.horizon;

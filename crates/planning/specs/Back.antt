@@ -5,8 +5,7 @@ use mathlib.Core.List.{List}
 use Prim.Native.Nat.{ℕ, _+_, _/_, _^_, _≤_, _<_}
 use lib.ListN.{length, getD}
 use Rattle.sets.specs.Sets.{_⊆_, gathered}
-use Rattle.network.specs.Network.{Network}
-use Rattle.choice.specs.Choice.{Cover}
+use Rattle.network.specs.Network.{Network, Cover}
 use Rattle.planning.specs.Rounds.{Fitting, run, Rounds}
 use Rattle.planning.specs.Layers.{Layer, vertices}
 

@@ -1,1 +1,1 @@
-// The planning graph is definitions and theorems; `layering` makes its layers.
+// The planning graph is definitions and theorems; `layers` makes its layers.

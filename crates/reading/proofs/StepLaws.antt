@@ -3,7 +3,7 @@ use mathlib.Core.Path.{_≡_, refl, ap, ap₂, sym, _∙_}
 use mathlib.Core.Bool.{Bool, true, false, not, cond}
 use mathlib.Core.List.{List, [], _∷_}
 use Prim.Native.Nat.{ℕ, suc, _+_, _-_, _*_, _/_, _^_, _≤_, _<_}
-use native.Mathlib.Nat.{le-div-iff-mul-le, one-mul, div-eq-of-lt, pow-suc, pow-le-pow-right}
+use native.Mathlib.Nat.{div-eq-of-lt, pow-suc, pow-le-pow-right}
 use native.Mathlib.Decide.{decLe}
 use native.Mathlib.Omega.{arith}
 use lib.Dec.{leb, ltb, eqb}
@@ -20,7 +20,7 @@ use Rattle.reading.specs.declared.item.Cursor.the-variants as Cursor
 use Rattle.reading.specs.declared.item.Item.{Item}
 use Rattle.reading.specs.Got.{Got, got, refused, Reader, refuse, andThen, checked, optional, eachAt}
 use Rattle.reading.specs.Items.{kindAt, valueAt, numberAt, lengthAt, nameAt, spots}
-use Rattle.reading.specs.Cursors.{gotBy, readFrom, placeOf, stopped, itemOf}
+use Rattle.reading.specs.Meaning.{gotBy, readFrom, placeOf, stopped, itemGot}
 
 -- the same reading in another grouping
 pub and-assoc : {A B C : Type 0} (r : Got A) (k : A → ℕ → Got B) (l : B → ℕ → Got C) → andThen (andThen r k) l ≡ andThen r (λ a n. andThen (k a n) l)
@@ -75,9 +75,9 @@ fine-goes v (Cursor.Refused r) reason place = refl
 
 -- an item that the code tests by its value is the checked item
 pub tested-is : (from : Cursor) (item r : Item) (fault : ℕ → Bool) (reason : Reason) (read : Reader ℕ) (f : List ℕ) (b : Bool) (p : ℕ)
-    → itemOf item ≡ readFrom from (read f) → b ≡ fault (item .value) → p ≡ placeOf from
-    → itemOf r ≡ andThen (itemOf item) (λ v n. refuse b reason p (got v n))
-    → itemOf r ≡ readFrom from (checked fault reason read f)
+    → itemGot item ≡ readFrom from (read f) → b ≡ fault (item .value) → p ≡ placeOf from
+    → itemGot r ≡ andThen (itemGot item) (λ v n. refuse b reason p (got v n))
+    → itemGot r ≡ readFrom from (checked fault reason read f)
 tested-is (Cursor.At at) item r fault reason read f b p e eb ep h = h ∙ rw (eb, ep) (by-value (item .next)) ∙ ap (λ x. andThen x (λ v n. refuse (fault v) reason at (got v n))) e
   where
     by-value : (c : Cursor) → andThen (gotBy (item .value) c) (λ v n. refuse (fault (item .value)) reason at (got v n)) ≡ andThen (gotBy (item .value) c) (λ v n. refuse (fault v) reason at (got v n))
@@ -92,16 +92,6 @@ count-limit limit v {r} e = go (ltb limit v) refl e
     go : (b : Bool) → ltb limit v ≡ b → r ≡ cond b 0 v → r ≤ limit
     go true q h = omega arith
     go false q h = omega (arith, ltb-false limit v q)
-
--- a set has a member from k on exactly where shifting k out leaves something
-pub shifted-out : (v k : ℕ) → not (eqb (v / 2 ^ k) 0) ≡ leb (2 ^ k) v
-shifted-out v k = go (leb (2 ^ k) v) refl
-  where
-    go : (b : Bool) → leb (2 ^ k) v ≡ b → not (eqb (v / 2 ^ k) 0) ≡ leb (2 ^ k) v
-    go true e =
-        let h : 1 ≤ v / 2 ^ k = le-div-iff-mul-le {k = 2 ^ k} (pow-pos k) .1 (rw (one-mul (2 ^ k)) (leb-true (2 ^ k) v e)) in
-        rw (e, ne-eqb (v / 2 ^ k) 0 (λ z. omega arith))
-    go false e = rw (e, eq-eqb (v / 2 ^ k) 0 (div-eq-of-lt (leb-false (2 ^ k) v e)))
 
 -- ---- the kind, numbers and names, where the code finds what it finds
 
@@ -156,7 +146,7 @@ module _ (f : List ℕ) (at bytes : ℕ) where
   number-found h e = rw (h, e)
 
 -- a name, once its length is known
-module _ (limit : ℕ) (f : List ℕ) (from : Cursor) (item : Item) (e : itemOf item ≡ readFrom from (lengthAt limit f)) where
+module _ (limit : ℕ) (f : List ℕ) (from : Cursor) (item : Item) (e : itemGot item ≡ readFrom from (lengthAt limit f)) where
   letters : ℕ → Got Spot
   letters start =
       refuse (ltb (length f) (start + item .value)) EndsEarly (length f) (got (spots .standing start (item .value)) (start + item .value))

@@ -2,4 +2,4 @@
 pub mod Reasons
 pub mod Got
 pub mod Items
-pub mod Cursors
+pub mod Meaning

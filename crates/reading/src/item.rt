@@ -4,14 +4,15 @@
 ghost use mathlib.Core.Path.{_≡_};
 ghost use mathlib.Core.Bool.{cond};
 ghost use Prim.Native.Nat.{_+_, _≤_, _<_, _^_};
-ghost use lib.Dec.{leb, ltb, eqb};
+ghost use lib.Dec.{ltb, eqb};
 ghost use lib.ListN.{length};
 ghost use Rattle.reading.specs.Got.{got, refuse, andThen, optional};
 ghost use Rattle.reading.specs.Items.{kindAt, valueAt, numberAt, countAt, mapAt, setAt, fieldAt, lengthAt, nameAt, spots};
-ghost use Rattle.reading.specs.Cursors.{gotBy, readFrom, itemOf, nameOf, placeOf, stopped, finished};
+ghost use Rattle.reading.specs.Meaning.{gotBy, readFrom, itemGot, nameGot, placeOf, stopped, finished};
 use crate::Reason;
 use crate::Refusal;
 use crate::Spot;
+use sets::word;
 
 // Where reading stands: at a position of the file, or refused.
 pub enum Cursor {
@@ -53,7 +54,7 @@ fn stop(next: Cursor, reason: Reason, place: usize) -> Cursor
 
 // An item that is refused where its test found a fault.
 fn tested(item: Item, fault: bool, reason: Reason, place: usize) -> Item
-    ensures { λ r. ⌜ itemOf r ≡ andThen (itemOf item) (λ v n. refuse fault reason place (got v n)) ⌝ }
+    ensures { λ r. ⌜ itemGot r ≡ andThen (itemGot item) (λ v n. refuse fault reason place (got v n)) ⌝ }
     ensures { λ r. ⌜ r .value ≡ cond fault 0 (item .value) ⌝ }
 {
     if !fault {
@@ -99,7 +100,7 @@ fn ends_early(end: usize, at: usize, due: usize) -> bool
 // A number of so many bytes.
 fn number(file: &[u8], from: Cursor, bytes: usize) -> Item
     requires { ⌜ bytes ≤ 8 ⌝ }
-    ensures { λ r. ⌜ itemOf r ≡ readFrom from (numberAt bytes (now (file .entry))) ⌝ }
+    ensures { λ r. ⌜ itemGot r ≡ readFrom from (numberAt bytes (now (file .entry))) ⌝ }
 {
     let Cursor::At(at) = from else {
         return Item {
@@ -120,16 +121,6 @@ fn number(file: &[u8], from: Cursor, bytes: usize) -> Item
     }
 }
 
-// Whether a set has a member at or above the limit.
-pub fn exceeds(v: u64, limit: usize) -> bool
-    ensures { λ r. ⌜ r ≡ leb (2 ^ limit) v ⌝ }
-{
-    if 64 <= limit {
-        return false;
-    }
-    (v >> limit) != 0
-}
-
 // The kind of the file, which is to be this one.
 pub fn kind(file: &[u8], kind: u8) -> Cursor
     ensures { λ r. ⌜ gotBy kind r ≡ kindAt (λ k. eqb k kind) (now (file .entry)) 0 ⌝ }
@@ -145,7 +136,7 @@ pub fn kind(file: &[u8], kind: u8) -> Cursor
 
 // A count, or the horizon.
 pub fn count(file: &[u8], from: Cursor, limit: u64) -> Item
-    ensures { λ r. ⌜ itemOf r ≡ readFrom from (countAt 1 limit (now (file .entry))) ⌝ }
+    ensures { λ r. ⌜ itemGot r ≡ readFrom from (countAt 1 limit (now (file .entry))) ⌝ }
     ensures { λ r. ⌜ r .value ≤ limit ⌝ }
 {
     let item = number(file, from, 1);
@@ -155,27 +146,27 @@ pub fn count(file: &[u8], from: Cursor, limit: u64) -> Item
 
 // The bit map of a record with so many fields.
 pub fn bit_map(file: &[u8], from: Cursor, fields: usize) -> Item
-    ensures { λ r. ⌜ itemOf r ≡ readFrom from (mapAt fields (now (file .entry))) ⌝ }
+    ensures { λ r. ⌜ itemGot r ≡ readFrom from (mapAt fields (now (file .entry))) ⌝ }
 {
     let item = number(file, from, 1);
     let v = item.value;
-    tested(item, exceeds(v, fields), Reason::ForbiddenBit, place(from))
+    tested(item, word::exceeds(v, fields), Reason::ForbiddenBit, place(from))
 }
 
 // A set whose members are below the limit.
 pub fn set(file: &[u8], from: Cursor, bytes: usize, limit: usize) -> Item
     requires { ⌜ bytes ≤ 8 ⌝ }
-    ensures { λ r. ⌜ itemOf r ≡ readFrom from (setAt bytes limit (now (file .entry))) ⌝ }
+    ensures { λ r. ⌜ itemGot r ≡ readFrom from (setAt bytes limit (now (file .entry))) ⌝ }
 {
     let item = number(file, from, bytes);
     let v = item.value;
-    tested(item, exceeds(v, limit), Reason::AbsentMember, place(from))
+    tested(item, word::exceeds(v, limit), Reason::AbsentMember, place(from))
 }
 
 // Such a set as a field of a record, which is there where it is marked.
 pub fn field(file: &[u8], from: Cursor, marked: bool, bytes: usize, limit: usize) -> Item
     requires { ⌜ bytes ≤ 8 ⌝ }
-    ensures { λ r. ⌜ itemOf r ≡ readFrom from (optional marked 0 (fieldAt bytes limit) (now (file .entry))) ⌝ }
+    ensures { λ r. ⌜ itemGot r ≡ readFrom from (optional marked 0 (fieldAt bytes limit) (now (file .entry))) ⌝ }
 {
     if !marked {
         return Item {
@@ -189,7 +180,7 @@ pub fn field(file: &[u8], from: Cursor, marked: bool, bytes: usize, limit: usize
     let w = present.value;
     tested(
         present,
-        exceeds(w, limit),
+        word::exceeds(w, limit),
         Reason::AbsentMember,
         place(from),
     )
@@ -197,7 +188,7 @@ pub fn field(file: &[u8], from: Cursor, marked: bool, bytes: usize, limit: usize
 
 // The length of a name.
 fn name_length(file: &[u8], from: Cursor, limit: u64) -> Item
-    ensures { λ r. ⌜ itemOf r ≡ readFrom from (lengthAt limit (now (file .entry))) ⌝ }
+    ensures { λ r. ⌜ itemGot r ≡ readFrom from (lengthAt limit (now (file .entry))) ⌝ }
 {
     let item = number(file, from, 1);
     let len = item.value;
@@ -208,7 +199,7 @@ fn name_length(file: &[u8], from: Cursor, limit: u64) -> Item
 
 // A name, which is there where it is marked.
 pub fn name(file: &[u8], from: Cursor, marked: bool, limit: u64) -> Named
-    ensures { λ r. ⌜ nameOf r ≡ readFrom from (optional marked (spots .absent) (nameAt spots limit) (now (file .entry))) ⌝ }
+    ensures { λ r. ⌜ nameGot r ≡ readFrom from (optional marked (spots .absent) (nameAt spots limit) (now (file .entry))) ⌝ }
     ensures { λ r. ⌜ r .spot .start + r .spot .len ≤ length (now (file .entry)) ⌝ }
 {
     let none = Spot { start: 0, len: 0 };

@@ -30,6 +30,16 @@ pub struct Refusal {
     pub place: usize,
 }
 
+// A refusal by its reason and place.
+pub fn refusal_at(reason: Reason, place: usize) -> Refusal
+    ensures { λ r. ⌜ r ≡ record { reason = reason; place = place } ⌝ }
+{
+    Refusal {
+        reason: reason,
+        place: place,
+    }
+}
+
 // Where the bytes of a name stand in a file: 0 and 0 where there is none.
 pub struct Spot {
     pub start: usize,

@@ -23,13 +23,13 @@ use Rattle.network.specs.Groups.{groupsTo}
 use Rattle.choice.specs.Choice.{soleGoal}
 use Rattle.planning.specs.Rounds.{fittingOf, fewest}
 use Rattle.planning.proofs.PlanLaws.{fewest-some}
-use Rattle.arguments.specs.Answers.{onJob, unless, behind, found, passed, Said, refusedBy, answered, said}
+use Rattle.arguments.specs.Answers.{onJob, unless, behind, foundOr, passed, Said, refusedBy, answered, said}
 use Rattle.calls.specs.declared.PlanAnswer.{PlanAnswer}
 use Rattle.calls.specs.Choose.{Chosen, chooseIn, chooseOf}
 use Rattle.calls.specs.Offer.{offerIn, offerOf}
 use Rattle.calls.specs.Plan.{planIn, planOf, planTold, Buffer}
 use Rattle.calls.proofs.CallLaws.{on-job}
-use Rattle.report.specs.Outcome.{Result, selected, planned, mapped, room, RoundWords, outcomeOf, Within}
+use Rattle.report.specs.Outcome.{Result, selected, planned, mapped, room, RoundWords, outcomeOf, RoundsFit}
 
 -- ---- a file of another kind is refused at its first byte, as the empty file is
 
@@ -74,12 +74,12 @@ no-rounds = refl
 plan-fits : (file buffer : List ℕ) (k : ℕ) → said (planOf file buffer) ≡ answered k → k ≤ length buffer
 plan-fits file buffer k = go (readJob fittings file)
   where
-    some-rounds : (o : Option ℕ) → said (found o NoPlan) ≡ answered k → o ≡ some k
+    some-rounds : (o : Option ℕ) → said (foundOr o NoPlan) ≡ answered k → o ≡ some k
     some-rounds (some j) e = let s : j ≡ k = cc in ap some s
     some-rounds none e = let z : _≡_ {A = ℕ} 0 1 = cc in absurd (omega arith)
 
     tested : (job : Job (List ℕ)) (short : Bool) → ltb (length buffer) (horizon job) ≡ short
-        → said (behind (unless short ShortBuffer passed) (found (fewest (fittingOf job) (horizon job)) NoPlan)) ≡ answered k → k ≤ length buffer
+        → said (behind (unless short ShortBuffer passed) (foundOr (fewest (fittingOf job) (horizon job)) NoPlan)) ≡ answered k → k ≤ length buffer
     tested job true s e = let z : _≡_ {A = ℕ} 0 1 = cc in absurd (omega arith)
     tested job false s e = le-trans (fewest-some (fittingOf job) (horizon job) k (some-rounds (fewest (fittingOf job) (horizon job)) e) .0) (ltb-false (length buffer) (horizon job) s)
 
@@ -87,18 +87,18 @@ plan-fits file buffer k = go (readJob fittings file)
     go (refused reason place) e = let z : _≡_ {A = ℕ} 0 1 = cc in absurd (omega arith)
     go (got job end) e = tested job (ltb (length buffer) (horizon job)) refl e
 
-pub outcome-within : (file words : List ℕ) → Within (outcomeOf file words) (length words)
+pub outcome-within : (file words : List ℕ) → RoundsFit (outcomeOf file words) (length words)
 outcome-within file words = go (eqb (getD file 0 0) 70)
   where
-    chosen : (s : Said Chosen) → Within (mapped selected s) (length words)
+    chosen : (s : Said Chosen) → RoundsFit (mapped selected s) (length words)
     chosen (refusedBy number place) = tt
     chosen (answered c) = tt
 
-    rounds : (s : Said ℕ) → ((k : ℕ) → s ≡ answered k → k ≤ length words) → Within (mapped planned s) (length words)
+    rounds : (s : Said ℕ) → ((k : ℕ) → s ≡ answered k → k ≤ length words) → RoundsFit (mapped planned s) (length words)
     rounds (refusedBy number place) h = tt
     rounds (answered k) h = h k refl
 
-    go : (b : Bool) → Within (cond b (mapped planned (said (planOf file words))) (mapped selected (said (offerOf file)))) (length words)
+    go : (b : Bool) → RoundsFit (cond b (mapped planned (said (planOf file words))) (mapped selected (said (offerOf file)))) (length words)
     go true = rounds (said (planOf file words)) (plan-fits file words)
     go false = chosen (said (offerOf file))
 

@@ -34,10 +34,10 @@ abbrev pub RoundWords : List ℕ → List ℕ → List ℕ → Type 0
 RoundWords file old new = Buffer (readJob fittings file) old new (planOf file old)
 
 -- no more rounds than there are words
-abbrev pub Within : Said Result → ℕ → Type 0
-Within (refusedBy number place) size = Unit {0}
-Within (answered (selected c)) size = Unit {0}
-Within (answered (planned k)) size = k ≤ size
+abbrev pub RoundsFit : Said Result → ℕ → Type 0
+RoundsFit (refusedBy number place) size = Unit {0}
+RoundsFit (answered (selected c)) size = Unit {0}
+RoundsFit (answered (planned k)) size = k ≤ size
 
 -- the text of an outcome and its round words
 abbrev pub textOf : Said Result → List ℕ → List ℕ

@@ -1,9 +1,9 @@
 // What the program does with a file, and the text that it prints.
 ghost use mathlib.Core.Path.{_≡_};
-ghost use Rattle.text.specs.Pages.{shown};
+ghost use Rattle.text.specs.Meaning.{shown};
 ghost use Rattle.arguments.specs.Answers.{said};
 ghost use Rattle.calls.specs.Offer.{offerOf};
-ghost use Rattle.report.specs.Outcome.{selected, mapped, RoundWords, outcomeOf, Within, textOf, Prints, outcomeTold};
+ghost use Rattle.report.specs.Outcome.{selected, mapped, RoundWords, outcomeOf, RoundsFit, textOf, Prints, outcomeTold};
 use calls::ChoiceAnswer;
 use calls::PlanAnswer;
 use reading::Refusal;
@@ -45,7 +45,7 @@ pub fn outcome(file: &[u8], words: &mut [u32; 16]) -> OutcomeAnswer
 
 // The text of an outcome.
 fn text(outcome: OutcomeAnswer, words: &[u32; 16]) -> Page
-    requires { ⌜ Within (outcomeTold outcome) 16 ⌝ }
+    requires { ⌜ RoundsFit (outcomeTold outcome) 16 ⌝ }
     ensures { λ r. ⌜ shown r ≡ textOf (outcomeTold outcome) (now (words .entry)) ⌝ }
 {
     match outcome {

@@ -4,14 +4,14 @@ use mathlib.Core.Path.{_≡_, refl, sym, ap, ap₂, _∙_}
 use mathlib.Core.Logic.{_⊎_, inl, inr, _≢_}
 use mathlib.Core.Bool.{Bool, true, false, not, _||_}
 use Prim.Native.Nat.{ℕ, zero, suc, _+_, _-_, _*_, _/_, _%_, _^_, _≤_, _<_, zero-le, min, max}
-use native.Mathlib.Nat.{le-refl, le-of-eq, mod-lt, div-one, zero-lt-suc, pow-suc, le-of-suc-le-suc, div-div-eq-div-mul, div-eq-of-lt, mul-comm, mod-eq-of-lt}
+use native.Mathlib.Nat.{le-refl, le-of-eq, le-div-iff-mul-le, one-mul, mod-lt, div-one, zero-lt-suc, pow-suc, le-of-suc-le-suc, div-div-eq-div-mul, div-eq-of-lt, mul-comm, mod-eq-of-lt}
 use native.Mathlib.Decide.{decLt, ℕ-discrete}
 use native.Mathlib.Omega.{arith}
 use lib.Arith.{bin-ind, digits-mod, lt-one, le-zero}
 use lib.Pow.{pow-pos, pow-mono, pow-lt, shl-shr, shr-shr}
 use lib.Bits.{bitAnd, bitOr, and-comm, and-shr, or-shr, and-step, or-step, and-le-l, and-le-r, or-add-and, or-disjoint, and-mask, shifted-even, shifted-half}
-use lib.Dec.{eqb}
-use borrow.Author.Tests.{eq-eqb, ne-eqb, eqb-true, eqb-false, not-false}
+use lib.Dec.{leb, eqb}
+use borrow.Author.Tests.{leb-true, leb-false, eq-eqb, ne-eqb, eqb-true, eqb-false, not-false}
 use Rattle.sets.specs.Ranges.{num, everyTo}
 use Rattle.sets.specs.Sets.{bit, _∈_, member, without, _⊆_, part, meets, everyPair, full}
 use Rattle.sets.proofs.Ranges.{where-true, true-where, num-true, num-false, every-at, at-every}
@@ -427,3 +427,13 @@ shift-whole y q k e i = go (decLt i k)
           bit-shift y k (i - k),
           ap (bit y) d,
         )
+
+-- a set has a member from k on exactly if shifting k out leaves something
+pub shifted-out : (v k : ℕ) → not (eqb (v / 2 ^ k) 0) ≡ leb (2 ^ k) v
+shifted-out v k = go (leb (2 ^ k) v) refl
+  where
+    go : (b : Bool) → leb (2 ^ k) v ≡ b → not (eqb (v / 2 ^ k) 0) ≡ leb (2 ^ k) v
+    go true e =
+        let h : 1 ≤ v / 2 ^ k = le-div-iff-mul-le {k = 2 ^ k} (pow-pos k) .1 (rw (one-mul (2 ^ k)) (leb-true (2 ^ k) v e)) in
+        rw (e, ne-eqb (v / 2 ^ k) 0 (λ z. omega arith))
+    go false e = rw (e, eq-eqb (v / 2 ^ k) 0 (div-eq-of-lt (leb-false (2 ^ k) v e)))

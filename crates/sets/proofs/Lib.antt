@@ -4,6 +4,8 @@ pub mod Bits
 pub mod Made
 pub mod Lowest
 pub mod Counts
+pub mod Filled
+pub mod Tables
 pub mod First
 pub mod Articles
 pub mod Computed

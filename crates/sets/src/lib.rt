@@ -9,6 +9,7 @@ ghost use lib.Dec.{ltb};
 ghost use Rattle.sets.specs.Sets.{member, count};
 ghost use Rattle.sets.specs.Articles.{taking, givingUp};
 
+pub mod table;
 pub mod word;
 
 // The set whose one member is the article; the empty set where that is at or above the capacity.

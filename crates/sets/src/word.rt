@@ -3,6 +3,7 @@
 ghost use mathlib.Core.Path.{_≡_};
 ghost use Prim.Native.Nat.{suc, _≤_, _<_, _^_};
 ghost use lib.Bits.{bitOr};
+ghost use lib.Dec.{leb};
 ghost use lib.ListN.{getD};
 ghost use Rattle.sets.specs.Ranges.{given};
 ghost use Rattle.sets.specs.Sets.{bit, without, full, count, lowest, gathered};
@@ -55,6 +56,16 @@ pub fn more_if(s: u64, i: usize, passed: bool) -> u64
         return more(s, i);
     }
     s
+}
+
+// Whether s has a member at or above the limit.
+pub fn exceeds(s: u64, limit: usize) -> bool
+    ensures { λ r. ⌜ r ≡ leb (2 ^ limit) s ⌝ }
+{
+    if 64 <= limit {
+        return false;
+    }
+    (s >> limit) != 0
 }
 
 // All numbers below n.

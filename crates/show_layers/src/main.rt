@@ -2,7 +2,7 @@
 // one without steps, and a drawn one with as many steps, facts and rounds as a file can have; and that
 // a refused file has none. reference/layers.py prints the same text from layers of its own.
 ghost use Rattle.planning.specs.Back.{Sized};
-ghost use Rattle.layers.specs.Drawn.{fittingIn};
+ghost use Rattle.layers.specs.Meaning.{fittingIn};
 
 mod jobs;
 

@@ -14,12 +14,13 @@ use Rattle.sets.specs.Sets.{bit, _∈_, _⊆_, part, without, lowest}
 use Rattle.sets.specs.First.{Smallest}
 use Rattle.sets.proofs.Bits.{bit-or, bit-without, bit-empty, ext, ext-at, part-refl, part-in, in-part, part-yes, yes-part, in-without, in-more, less-in, less-same, less-other, more-same, more-other, or-left, member-differs}
 use Rattle.sets.proofs.Lowest.{lowest-in}
-use Rattle.network.specs.Network.{Network, listed}
-use Rattle.tables.proofs.TableLaws.{Filled}
+use Rattle.network.specs.Network.{Network, listed, Cover}
+use Rattle.sets.proofs.Filled.{Filled}
 use Rattle.choice.specs.declared.Found.{Found}
 use Rattle.choice.specs.declared.Found.the-variants as Found
-use Rattle.choice.specs.Choice.{Cover, smallest}
-use Rattle.choice.specs.Search.{foundBy, isSome, Finds}
+use Rattle.choice.specs.Choice.{smallest}
+use Rattle.choice.specs.Search.{Finds}
+use Rattle.choice.specs.Meaning.{foundBy, isSome}
 use Rattle.choice.proofs.ChoiceLaws.{smallest-right}
 use Rattle.supports.specs.Questions.{rowOf, Opens, Uncovered}
 

@@ -3,8 +3,7 @@ use mathlib.Core.List.{List}
 use Prim.Native.Nat.{ℕ, _*_}
 use lib.ListN.{getD, take, drop}
 use Rattle.sets.specs.Sets.{_∈_, _⊆_}
-use Rattle.network.specs.Network.{listed}
-use Rattle.choice.specs.Choice.{Cover}
+use Rattle.network.specs.Network.{listed, Cover}
 
 -- the mutex words of round layer j + 1
 unfoldable pub rowOf : List ℕ → ℕ → List ℕ

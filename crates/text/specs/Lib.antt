@@ -1,3 +1,3 @@
 -- The text that the program prints.
 pub mod Text
-pub mod Pages
+pub mod Meaning

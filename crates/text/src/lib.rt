@@ -7,7 +7,7 @@ ghost use Prim.Native.Nat.{_+_, _≤_, _<_};
 ghost use lib.ListN.{take};
 ghost use Rattle.sets.specs.Sets.{member};
 ghost use Rattle.text.specs.Text.{decimal, members, refusedText, chosenText, roundText, roundsText};
-ghost use Rattle.text.specs.Pages.{shown, extended};
+ghost use Rattle.text.specs.Meaning.{shown, extended};
 use sets::word;
 
 // The bytes of a text are the first `len`.

@@ -1,4 +1,4 @@
--- `lending::goals` meets its contract.
+-- `arguments::goals` meets its contract.
 use borrow.Author.Needs.{needs}
 use mathlib.Core.Path.{_≡_, ap, _∙_}
 use native.Mathlib.Omega.{arith}

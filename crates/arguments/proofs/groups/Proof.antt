@@ -1,4 +1,4 @@
--- `lending::groups` meets its contract.
+-- `arguments::groups` meets its contract.
 use borrow.Author.Needs.{needs}
 use mathlib.Core.Path.{_≡_, ap, _∙_}
 use native.Mathlib.Omega.{arith}

@@ -1,4 +1,4 @@
--- `lending::in_range` meets its contract.
+-- `arguments::in_range` meets its contract.
 use borrow.Author.Tests.{lt-ltb}
 use Rattle.arguments.proofs.VerdictLaws.{in-range}
 use Rattle.arguments.proofs.in_range.Statement.{statement}

@@ -1,11 +1,11 @@
--- `lending::live_and_goal` meets its contract.
+-- `arguments::live_and_goal` meets its contract.
 use borrow.Author.Needs.{needs}
 use mathlib.Core.Path.{_≡_, ap, _∙_}
 use mathlib.Core.Bool.{true, false}
 use native.Mathlib.Omega.{arith}
 use Rattle.reading.specs.declared.Reason.the-variants.{LiveOutsideFile, BadGoal}
 use Rattle.jobfile.specs.declared.Verdict.the-variants as Verdict
-use Rattle.network.specs.Filter.{outside, badGoal}
+use Rattle.filter.specs.Filter.{outside, badGoal}
 use Rattle.arguments.proofs.VerdictLaws.{refusalBy}
 use Rattle.arguments.proofs.live_and_goal.Statement.{statement}
 use Rattle.arguments.proofs.live_and_goal.Tie as tie

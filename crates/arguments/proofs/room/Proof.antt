@@ -1,4 +1,4 @@
--- `lending::room` meets its contract.
+-- `arguments::room` meets its contract.
 use borrow.Author.Needs.{needs}
 use mathlib.Core.Path.{ap, _∙_}
 use borrow.Author.Tests.{lt-ltb, le-ltb}

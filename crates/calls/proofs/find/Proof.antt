@@ -27,14 +27,14 @@ enum-told c = search needs
 search-requires : tie.Need-search-requires
 search-requires c κs = search needs
 
-found-requires : tie.Need-found-requires
-found-requires c κs = search needs
+answer-of-requires : tie.Need-answer-of-requires
+answer-of-requires c κs = search needs
 
 returns-2 : tie.Need-returns-2
 returns-2 c =
     let a = c .before .before .before .before .before .before .before .before .before .before .before .args in
     let r = c .before .before .before .before .before .before .read-fitting in
-    find-fitting (now (a .file)) (now (a .name)) (c .before .before .before .before .before .before .before .before .is-fitting .ensures) (c .found .ensures) (r .result) (c .before .before .before .before .before .before .before .if1 .taken) (r .ensures .0) (r .ensures .1) (c .before .before .before .before .enum-told .given .1) (c .before .search .ensures) (omega arith)
+    find-fitting (now (a .file)) (now (a .name)) (c .before .before .before .before .before .before .before .before .is-fitting .ensures) (c .answer-of .ensures) (r .result) (c .before .before .before .before .before .before .before .if1 .taken) (r .ensures .0) (r .ensures .1) (c .before .before .before .before .enum-told .given .1) (c .before .search .ensures) (omega arith)
 
 read-choice-requires : tie.Need-read-choice-requires
 read-choice-requires c κs = search needs
@@ -53,14 +53,14 @@ enum-told-2 c = search needs
 search-requires-2 : tie.Need-search-requires-2
 search-requires-2 c κs = search needs
 
-found-requires-2 : tie.Need-found-requires-2
-found-requires-2 c κs = search needs
+answer-of-requires-2 : tie.Need-answer-of-requires-2
+answer-of-requires-2 c κs = search needs
 
 returns-4 : tie.Need-returns-4
 returns-4 c =
     let a = c .before .before .before .before .before .before .before .before .before .before .before .args in
     let r = c .before .before .before .before .before .before .read-choice in
-    find-choice (now (a .file)) (now (a .name)) (c .before .before .before .before .before .before .before .before .is-fitting .ensures) (c .found2 .ensures) (r .result) (c .before .before .before .before .before .before .before .if1 .left) (r .ensures .0) (r .ensures .1) (c .before .before .before .before .enum-told2 .given .1) (c .before .search2 .ensures) (omega arith)
+    find-choice (now (a .file)) (now (a .name)) (c .before .before .before .before .before .before .before .before .is-fitting .ensures) (c .answer-of2 .ensures) (r .result) (c .before .before .before .before .before .before .before .if1 .left) (r .ensures .0) (r .ensures .1) (c .before .before .before .before .enum-told2 .given .1) (c .before .search2 .ensures) (omega arith)
 
 pub find-spec : {M : Type 1} → statement M
 find-spec =
@@ -72,12 +72,12 @@ find-spec =
     returns
     enum-told
     search-requires
-    found-requires
+    answer-of-requires
     returns-2
     read-choice-requires
     enum-known-verdict-2
     returns-3
     enum-told-2
     search-requires-2
-    found-requires-2
+    answer-of-requires-2
     returns-4)

@@ -5,7 +5,7 @@ use native.Mathlib.Omega.{arith}
 use denote.Ref.{now}
 use lib.ListN.{getD}
 use Rattle.network.proofs.GroupLaws.{lent-right}
-use Rattle.arguments.specs.Tests.{networkIn}
+use Rattle.arguments.specs.Meaning.{networkIn}
 use Rattle.arguments.proofs.TestLaws.{groups-passed}
 use Rattle.calls.proofs.CallLaws.{choice-read}
 use Rattle.calls.proofs.ChoiceLaws.{pass-down, pass-groups, pass-goal, pass-made}

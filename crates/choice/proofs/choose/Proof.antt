@@ -7,9 +7,10 @@ use native.Mathlib.Omega.{arith}
 use denote.Ref.{now}
 use lib.ListN.{getD}
 use Rattle.network.specs.Network.{listed}
-use Rattle.network.specs.Filter.{setAside}
-use Rattle.tables.specs.Tables.{transposed, Tabled}
-use Rattle.tables.proofs.TableLaws.{tables-right}
+use Rattle.filter.specs.Filter.{setAside}
+use Rattle.sets.specs.Tables.{transposed}
+use Rattle.network.specs.Tables.{Tabled}
+use Rattle.network.proofs.TableLaws.{tables-right}
 use Rattle.choice.specs.Choice.{selection}
 use Rattle.choice.specs.declared.Choice.the-variants as Choice
 use Rattle.choice.proofs.ChoiceLaws.{chosen-set, chosen-nothing}

@@ -7,7 +7,7 @@ use native.Mathlib.Omega.{arith}
 use lib.ListN.{length, getD, drop}
 use Rattle.sets.specs.Sets.{full}
 use Rattle.network.specs.Network.{listed}
-use Rattle.network.specs.Filter.{pass, passes}
+use Rattle.filter.specs.Filter.{pass, passes}
 use Rattle.filter.proofs.PassLaws.{passes-turn, passes-end}
 use Rattle.choice.proofs.left_live.Statement.{statement}
 use Rattle.choice.proofs.left_live.Tie as tie

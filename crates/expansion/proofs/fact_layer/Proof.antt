@@ -1,10 +1,10 @@
--- `expansion::fact_layer` meets its contract. The invariant: the layer is that of the turns so far. The measure is how many are left.
+-- `layers::fact_layer` meets its contract. The invariant: the layer is that of the turns so far. The measure is how many are left.
 use borrow.Author.Needs.{needs}
 use mathlib.Core.Path.{_≡_, ap, _∙_}
 use Prim.Native.Nat.{ℕ, _-_, _≤_}
 use native.Mathlib.Omega.{arith}
 use Rattle.planning.specs.Layers.{factLayer}
-use Rattle.layers.specs.Drawn.{layer, roomy, fittingIn}
+use Rattle.layers.specs.Meaning.{layer, roomy, fittingIn}
 use Rattle.layers.proofs.LayerCode.{vertices-drawn, needs-fit, layer-start, layer-round, layer-facts}
 use Rattle.expansion.proofs.fact_layer.Statement.{statement}
 use Rattle.expansion.proofs.fact_layer.Tie as tie

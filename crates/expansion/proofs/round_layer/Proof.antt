@@ -1,7 +1,7 @@
--- `expansion::round_layer` meets its contract.
+-- `layers::round_layer` meets its contract.
 use borrow.Author.Needs.{needs}
 use Prim.Native.Nat.{_-_}
-use Rattle.layers.specs.Drawn.{fittingIn}
+use Rattle.layers.specs.Meaning.{fittingIn}
 use Rattle.layers.proofs.LayerCode.{vertices-drawn, needs-fit, layer-round}
 use Rattle.expansion.proofs.round_layer.Statement.{statement}
 use Rattle.expansion.proofs.round_layer.Tie as tie

@@ -13,8 +13,7 @@ use lib.ListN.{length, set}
 use denote.Ref.{now}
 use Rattle.sets.specs.Sets.{_∈_, _⊆_}
 use Rattle.sets.proofs.Bits.{bit-empty, bit-without, part-refl, part-in, part-le, less-lt}
-use Rattle.network.specs.Network.{listed}
-use Rattle.choice.specs.Choice.{Cover}
+use Rattle.network.specs.Network.{listed, Cover}
 use Rattle.supports.specs.Questions.{rowOf}
 use Rattle.supports.proofs.LayerLaws.{lowest-one, asked-none}
 use Rattle.extraction.specs.Extraction.{Graph, graph, Back, Held, Nogoods, Noted, Extracted}
@@ -33,7 +32,7 @@ use Rattle.extraction.proofs.nogoods.many.Reads as many-reads
 use Rattle.extraction.proofs.nogoods.store.Reads as store-reads
 use Rattle.extraction.proofs.nogoods.stored.Reads as stored-reads
 use Rattle.extraction.proofs.steps_of.Reads as steps-of-reads
-use Rattle.extraction.proofs.trials.Reads as trials-reads
+use Rattle.extraction.proofs.droppable.Reads as droppable-reads
 use Rattle.extraction.proofs.whole.Reads as whole-reads
 use Rattle.supports.proofs.ask.Reads as ask-reads
 use Rattle.supports.proofs.explain.Reads as explain-reads
@@ -68,8 +67,8 @@ abbrev dropped-calls : ℕ → dropped-lts.Claims
 dropped-calls t = (
   many-reads.Asked,
   many-reads.Learnt,
-  trials-reads.Asked,
-  trials-reads.Learnt,
+  droppable-reads.Asked,
+  droppable-reads.Learnt,
   lowest-reads.Asked,
   lowest-reads.Learnt,
   less-reads.Asked,
@@ -101,8 +100,8 @@ dropped-returns t c =
     let (few, room, (inside, none)) = c .before .before .before .before .before .before .before .pre .1 .1 in
     (part-refl (a .refuted), (inside, none), known)
 
-dropped-trials-requires : (t : ℕ) → dropped-lts.Need-trials-requires (dropped-calls t) (dropped-at t) dropped.Post dropped-Inv-loop dropped-μ-loop
-dropped-trials-requires t c κs = search needs
+dropped-droppable-requires : (t : ℕ) → dropped-lts.Need-droppable-requires (dropped-calls t) (dropped-at t) dropped.Post dropped-Inv-loop dropped-μ-loop
+dropped-droppable-requires t c κs = search needs
 
 dropped-loop-holds : (t : ℕ) → dropped-lts.Need-loop-holds (dropped-calls t) (dropped-at t) dropped.Post dropped-Inv-loop dropped-μ-loop
 dropped-loop-holds t c =
@@ -110,7 +109,7 @@ dropped-loop-holds t c =
     let T = graph (now (a .needs)) (now (a .gives)) (now (a .members)) (now (a .words)) (a .start) (a .all) in
     let (fine, known) = c .before .before .before .before .before .before .before .before .pre .1 .0 in
     let (few, room, (inside, none)) = c .before .before .before .before .before .before .before .before .pre .1 .1 in
-    (refl, refl, known, part-refl (a .refuted), none, c .trials .ensures .1)
+    (refl, refl, known, part-refl (a .refuted), none, c .droppable .ensures .1)
 
 dropped-lowest-requires : (t : ℕ) → dropped-lts.Need-lowest-requires (dropped-calls t) (dropped-at t) dropped.Post dropped-Inv-loop dropped-μ-loop
 dropped-lowest-requires t c κs = search needs
@@ -163,8 +162,8 @@ dropped-loop-again t c =
       subst (λ (s : ℕ). s ⊆ l .least) (sym (c .before .before .before .before .before .before .before .before .before .before .less .ensures)) (λ i. omega (arith, bit-without (l .left) (2 ^ b) i, rest i)),
     )
 
-dropped-trials-requires-2 : (t : ℕ) → dropped-lts.Need-trials-requires-2 (dropped-calls t) (dropped-at t) dropped.Post dropped-Inv-loop dropped-μ-loop
-dropped-trials-requires-2 t c κs = search needs
+dropped-droppable-requires-2 : (t : ℕ) → dropped-lts.Need-droppable-requires-2 (dropped-calls t) (dropped-at t) dropped.Post dropped-Inv-loop dropped-μ-loop
+dropped-droppable-requires-2 t c κs = search needs
 
 dropped-loop-less-2 : (t : ℕ) → dropped-lts.Need-loop-less-2 (dropped-calls t) (dropped-at t) dropped.Post dropped-Inv-loop dropped-μ-loop
 dropped-loop-less-2 t c =
@@ -172,7 +171,7 @@ dropped-loop-less-2 t c =
     let (plan-kept, table-kept, right, part, out, rest) = l .inv in
     let b = c .before .before .before .before .before .before .before .before .before .before .before .before .before .lowest .result in
     let m = lowest-one 64 (l .left) (c .before .before .before .before .before .before .before .before .before .before .before .before .before .lowest .ensures .0) (c .before .before .before .before .before .before .before .before .before .before .before .before .before .lowest .ensures .1) in
-    omega (arith, part-le (c .trials2 .result) (c .before .before .before .before .before .before .before .before .before .before .before .before .less .result) (c .trials2 .ensures .0), c .before .before .before .before .before .before .before .before .before .before .before .before .less .ensures, less-lt (l .left) b m)
+    omega (arith, part-le (c .droppable2 .result) (c .before .before .before .before .before .before .before .before .before .before .before .before .less .result) (c .droppable2 .ensures .0), c .before .before .before .before .before .before .before .before .before .before .before .before .less .ensures, less-lt (l .left) b m)
 
 dropped-loop-again-2 : (t : ℕ) → dropped-lts.Need-loop-again-2 (dropped-calls t) (dropped-at t) dropped.Post dropped-Inv-loop dropped-μ-loop
 dropped-loop-again-2 t c =
@@ -193,7 +192,7 @@ dropped-loop-again-2 t c =
       c .before .before .before .before .before .before .before .before .extract .ensures .1,
       λ i. le-trans (sub i) (le-trans (fewer i) (part i)),
       gone,
-      c .trials2 .ensures .1,
+      c .droppable2 .ensures .1,
     )
 
 dropped-same-length-2 : (t : ℕ) → dropped-lts.Need-same-length-2 (dropped-calls t) (dropped-at t) dropped.Post dropped-Inv-loop dropped-μ-loop
@@ -682,7 +681,7 @@ pub +dropped+extract-spec : {M : Type 1} → statement M
     (dropped-many-requires t)
     (dropped-same-length t)
     (dropped-returns t)
-    (dropped-trials-requires t)
+    (dropped-droppable-requires t)
     (dropped-loop-holds t)
     (dropped-lowest-requires t)
     (dropped-less-requires t)
@@ -692,7 +691,7 @@ pub +dropped+extract-spec : {M : Type 1} → statement M
     (dropped-enum-told t)
     (dropped-loop-less t)
     (dropped-loop-again t)
-    (dropped-trials-requires-2 t)
+    (dropped-droppable-requires-2 t)
     (dropped-loop-less-2 t)
     (dropped-loop-again-2 t)
     (dropped-same-length-2 t)

@@ -1,4 +1,4 @@
--- `filtering::carried` meets its contract.
+-- `filter::carried` meets its contract.
 use borrow.Author.Needs.{needs}
 use mathlib.Core.Path.{sym, _∙_}
 use lib.Bits.{bitAnd}

@@ -1,4 +1,4 @@
--- `filtering::contributions` meets its contract. The invariant, `Best`: the words hold the contributions of the articles seen so far.
+-- `filter::contributions` meets its contract. The invariant, `Best`: the words hold the contributions of the articles seen so far.
 -- The measure is how many articles are left.
 use borrow.Author.Needs.{needs}
 use mathlib.Core.List.{[]}

@@ -1,4 +1,4 @@
--- `filtering::pass` meets its contract. The invariant: the set so far is that of the articles seen that the pass keeps.
+-- `filter::pass` meets its contract. The invariant: the set so far is that of the articles seen that the pass keeps.
 -- The measure is how many articles are left.
 use borrow.Author.Needs.{needs}
 use mathlib.Core.Path.{_≡_, refl}
@@ -9,7 +9,7 @@ use lib.ListN.{getD}
 use Rattle.sets.specs.Ranges.{sumTo}
 use Rattle.sets.specs.Sets.{setOf}
 use Rattle.network.specs.Network.{listed}
-use Rattle.network.specs.Filter.{others}
+use Rattle.filter.specs.Filter.{others}
 use Rattle.filter.proofs.PassLaws.{best-small, others-left, keeps, pass-turn, pass-end}
 use Rattle.filter.proofs.pass.Statement.{statement}
 use Rattle.filter.proofs.pass.Tie as tie

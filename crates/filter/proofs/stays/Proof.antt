@@ -1,4 +1,4 @@
--- `filtering::stays` meets its contract.
+-- `filter::stays` meets its contract.
 use borrow.Author.Needs.{needs}
 use mathlib.Core.Path.{sym, ap, _∙_}
 use mathlib.Core.Bool.{Bool, _&&_}

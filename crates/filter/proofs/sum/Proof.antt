@@ -1,4 +1,4 @@
--- `filtering::sum` meets its contract. The invariant: the sum so far, which has room in a word. The measure is how many words are left.
+-- `filter::sum` meets its contract. The invariant: the sum so far, which has room in a word. The measure is how many words are left.
 use borrow.Author.Needs.{needs}
 use mathlib.Core.Path.{_≡_, refl, sym, ap, _∙_}
 use Prim.Native.Nat.{ℕ, _+_, _-_, _*_, _≤_}

@@ -5,7 +5,7 @@ use Rattle.reading.specs.Items.{spots}
 use Rattle.jobfile.specs.declared.ReadChoice.{ReadChoice}
 use Rattle.jobfile.specs.declared.ReadFitting.{ReadFitting}
 use Rattle.jobfile.specs.Read.{read, choices, fittings}
-use Rattle.jobfile.specs.Answers.{spotOf, spotIn}
+use Rattle.jobfile.specs.Meaning.{spotOf, spotIn}
 use Rattle.jobfile.proofs.ReadLaws.{either-fitting, either-choice, choice-spot, fitting-spot}
 use Rattle.jobfile.proofs.spot.Statement.{statement}
 use Rattle.jobfile.proofs.spot.Tie as tie

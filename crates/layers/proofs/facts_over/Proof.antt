@@ -1,4 +1,4 @@
--- `layering::facts_over` meets its contract.
+-- `layers::facts_over` meets its contract.
 use borrow.Author.Needs.{needs}
 use mathlib.Core.List.{[]}
 use Rattle.planning.specs.Rounds.{listedSteps}

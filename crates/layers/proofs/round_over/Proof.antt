@@ -1,4 +1,4 @@
--- `layering::round_over` meets its contract.
+-- `layers::round_over` meets its contract.
 use borrow.Author.Needs.{needs}
 use Prim.Native.Nat.{_+_}
 use Rattle.layers.proofs.RoundCode.{round-made}

@@ -5,7 +5,7 @@ use Prim.Native.Nat.{ℕ, _-_, _≤_}
 use native.Mathlib.Omega.{arith}
 use denote.Ref.{now}
 use lib.ListN.{length, take}
-use Rattle.layers.specs.Drawn.{fittingIn}
+use Rattle.layers.specs.Meaning.{fittingIn}
 use Rattle.extraction.specs.Extraction.{graph}
 use Rattle.planner.specs.Tabulated.{Tabulated, Searched}
 use Rattle.planner.proofs.PlannerLaws.{tabulated, members-length, unplanned, goal-inside, fine, solved-count, solved-words}
@@ -21,8 +21,8 @@ with-keepers-requires-2 c κs = search needs
 transposed-requires : tie.Need-transposed-requires
 transposed-requires c κs = search needs
 
-layers-requires : tie.Need-layers-requires
-layers-requires c κs = search needs
+round-layers-requires : tie.Need-round-layers-requires
+round-layers-requires c κs = search needs
 
 sub-shortest : tie.Need-sub-shortest
 sub-shortest c = search needs
@@ -43,7 +43,7 @@ shortest-requires c κs =
     let h = job .horizon in
     let needs = c .before .before .before .before .before .before .before .before .before .before .before .before .before .before .with-keepers in
     let gives = c .before .before .before .before .before .before .before .before .before .before .before .before .with-keepers2 in
-    let made = c .before .before .before .before .before .before .before .before .before .layers in
+    let made = c .before .before .before .before .before .before .before .before .before .round-layers in
     let members = made .result .members in
     let z : h - 0 ≡ h = omega arith in
     let T = graph (needs .result) (gives .result) (take (h - 0) members) (made .result .words) (job .start) 4294967295 in
@@ -63,7 +63,7 @@ returns c =
     let h = job .horizon in
     let needs = c .before .before .before .before .before .before .before .before .before .before .before .before .before .before .before .before .before .with-keepers in
     let gives = c .before .before .before .before .before .before .before .before .before .before .before .before .before .before .before .with-keepers2 in
-    let made = c .before .before .before .before .before .before .before .before .before .before .before .before .layers in
+    let made = c .before .before .before .before .before .before .before .before .before .before .before .before .round-layers in
     let members = made .result .members in
     let z : h - 0 ≡ h = omega arith in
     let T = graph (needs .result) (gives .result) (take (h - 0) members) (made .result .words) (job .start) 4294967295 in
@@ -85,7 +85,7 @@ plan-spec =
     with-keepers-requires
     with-keepers-requires-2
     transposed-requires
-    layers-requires
+    round-layers-requires
     sub-shortest
     part-shortest-start
     part-shortest-end

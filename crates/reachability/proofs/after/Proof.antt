@@ -1,4 +1,4 @@
--- `states::after` meets its contract.
+-- `reachability::after` meets its contract.
 use borrow.Author.Needs.{needs}
 use mathlib.Core.Path.{ap}
 use Prim.Native.Nat.{ℕ}

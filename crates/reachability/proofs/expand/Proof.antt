@@ -1,4 +1,4 @@
--- `states::expand` meets its contract. The invariant: the arrays keep their lengths, the list has grown, and what the first a steps lead to is
+-- `reachability::expand` meets its contract. The invariant: the arrays keep their lengths, the list has grown, and what the first a steps lead to is
 -- listed. The measure is how many steps are left.
 use borrow.Author.Needs.{needs}
 use mathlib.Core.Path.{_≡_, refl, sym, subst}

@@ -1,4 +1,4 @@
--- `states::hopeless` meets its contract. The invariant: the arrays keep their lengths, the start is listed, and the first i states are settled.
+-- `reachability::hopeless` meets its contract. The invariant: the arrays keep their lengths, the start is listed, and the first i states are settled.
 -- The measure is how many states could still come.
 use borrow.Author.Needs.{needs}
 use mathlib.Core.Path.{_≡_, subst, _∙_}
@@ -8,7 +8,7 @@ use lib.ListN.{length, getD}
 use Rattle.sets.specs.Sets.{_⊆_}
 use Rattle.sets.proofs.Ranges.{one-more}
 use Rattle.sets.proofs.Bits.{without-none}
-use Rattle.layers.specs.Drawn.{fittingIn}
+use Rattle.layers.specs.Meaning.{fittingIn}
 use Rattle.reachability.specs.States.{Among}
 use Rattle.reachability.proofs.StateLaws.{Settled, among-grown, settled-grown, settled-hopeless}
 use Rattle.reachability.proofs.hopeless.Statement.{statement}

@@ -1,4 +1,4 @@
--- `states::insert` meets its contract.
+-- `reachability::insert` meets its contract.
 use borrow.Author.Needs.{needs}
 use mathlib.Core.Path.{refl, subst}
 use Prim.Native.Nat.{_<_}

@@ -1,4 +1,4 @@
--- `states::place_of` meets its contract. The invariant: the slot looked at is one of the table. The measure is how many slots are left.
+-- `reachability::place_of` meets its contract. The invariant: the slot looked at is one of the table. The measure is how many slots are left.
 use borrow.Author.Needs.{needs}
 use Prim.Native.Nat.{_-_, _<_}
 use native.Mathlib.Omega.{arith}

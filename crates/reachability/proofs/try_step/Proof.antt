@@ -1,4 +1,4 @@
--- `states::try_step` meets its contract.
+-- `reachability::try_step` meets its contract.
 use borrow.Author.Needs.{needs}
 use mathlib.Core.Path.{subst, _∙_}
 use Rattle.sets.proofs.Bits.{without-none}

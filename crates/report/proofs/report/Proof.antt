@@ -3,7 +3,7 @@ use borrow.Author.Needs.{needs}
 use mathlib.Core.Path.{sym, ap, subst, _∙_}
 use denote.Ref.{now}
 use lib.ListN.{replicate}
-use Rattle.report.specs.Outcome.{RoundWords, outcomeOf, Within, textOf}
+use Rattle.report.specs.Outcome.{RoundWords, outcomeOf, RoundsFit, textOf}
 use Rattle.report.proofs.OutcomeLaws.{no-rounds, outcome-within}
 use Rattle.report.proofs.report.Statement.{statement}
 use Rattle.report.proofs.report.Tie as tie
@@ -12,7 +12,7 @@ outcome-requires : tie.Need-outcome-requires
 outcome-requires c κs = search needs
 
 text-requires : tie.Need-text-requires
-text-requires c κs = subst (λ s. Within s 16) (sym (c .before .outcome .ensures .0)) (outcome-within (now (c .before .before .before .before .args .file)) (replicate 16 0))
+text-requires c κs = subst (λ s. RoundsFit s 16) (sym (c .before .outcome .ensures .0)) (outcome-within (now (c .before .before .before .before .args .file)) (replicate 16 0))
 
 returns : tie.Need-returns
 returns c =

@@ -3,7 +3,7 @@ use borrow.Author.Needs.{needs}
 use mathlib.Core.Path.{sym, ap, subst, _∙_}
 use denote.Ref.{now}
 use Rattle.text.specs.Text.{refusedText}
-use Rattle.report.specs.Outcome.{Within, textOf, outcomeTold}
+use Rattle.report.specs.Outcome.{RoundsFit, textOf, outcomeTold}
 use Rattle.report.proofs.text.Statement.{statement}
 use Rattle.report.proofs.text.Tie as tie
 
@@ -17,7 +17,7 @@ enum-known-outcome-2 : tie.Need-enum-known-outcome-2
 enum-known-outcome-2 c = search needs
 
 rounds-requires : tie.Need-rounds-requires
-rounds-requires c κs = subst (λ o. Within (outcomeTold o) 16) (c .before .outcome2 .given .1) (c .before .before .before .pre)
+rounds-requires c κs = subst (λ o. RoundsFit (outcomeTold o) 16) (c .before .outcome2 .given .1) (c .before .before .before .pre)
 
 enum-known-outcome-3 : tie.Need-enum-known-outcome-3
 enum-known-outcome-3 c = search needs

@@ -3,7 +3,7 @@ use Prim.Native.Nat.{_<_, _^_}
 use Rattle.show_print.proofs.members.Statement.{statement}
 use Rattle.show_print.proofs.members.Tie as tie
 
--- `print::members` ends, and asks for the lowest member only of a set that has one. The measure is the number of the set of members left.
+-- `show_print::members` ends, and asks for the lowest member only of a set that has one. The measure is the number of the set of members left.
 
 abbrev Inv-loop : tie.InvT-loop
 Inv-loop s left₀ t3 left = left < 2 ^ 64

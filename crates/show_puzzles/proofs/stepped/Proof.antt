@@ -1,4 +1,4 @@
--- `puzzles::stepped` ends. The measure is how many steps are left.
+-- `show_puzzles::stepped` ends. The measure is how many steps are left.
 use borrow.Author.Needs.{needs}
 use Prim.Native.Nat.{_-_, _≤_}
 use Rattle.show_puzzles.proofs.stepped.Statement.{statement}

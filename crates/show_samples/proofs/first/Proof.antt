@@ -1,4 +1,4 @@
--- `samples::first` takes no more bytes than the file has.
+-- `show_samples::first` takes no more bytes than the file has.
 use mathlib.Core.Path.{sym}
 use native.Mathlib.Omega.{arith}
 use lib.Seq.{length-take-le}

@@ -1,4 +1,4 @@
--- `samples::one_more` ends, and stays within both arrays.
+-- `show_samples::one_more` ends, and stays within both arrays.
 use borrow.Author.Needs.{needs}
 use Prim.Native.Nat.{_-_, _≤_}
 use Rattle.show_samples.proofs.one_more.Statement.{statement}

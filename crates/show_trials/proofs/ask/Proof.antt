@@ -1,4 +1,4 @@
--- `trials::ask` lends a part of the bytes that the file fills.
+-- `show_trials::ask` lends a part of the bytes that the file fills.
 use borrow.Author.Needs.{needs}
 use lib.ListN.{length}
 use lib.Seq.{length-take-le}

@@ -1,4 +1,4 @@
--- `trials::kept` ends, and stays within the words.
+-- `show_trials::kept` ends, and stays within the words.
 use borrow.Author.Needs.{needs}
 use Prim.Native.Nat.{_-_}
 use Rattle.show_trials.proofs.kept.Statement.{statement}

@@ -1,4 +1,4 @@
--- `questions::allows` meets its contract.
+-- `supports::allows` meets its contract.
 use borrow.Author.Needs.{needs}
 use mathlib.Core.Path.{ap}
 use Prim.Native.Nat.{ℕ}

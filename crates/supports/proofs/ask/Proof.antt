@@ -1,10 +1,10 @@
--- `questions::ask` meets its contract.
+-- `supports::ask` meets its contract.
 use borrow.Author.Needs.{needs}
 use mathlib.Core.Path.{sym, subst}
 use mathlib.Core.List.{List}
 use Prim.Native.Nat.{ℕ}
 use denote.Ref.{now}
-use Rattle.tables.specs.Tables.{Tabled}
+use Rattle.network.specs.Tables.{Tabled}
 use Rattle.supports.proofs.LayerLaws.{asked-row}
 use Rattle.supports.proofs.ask.Statement.{statement}
 use Rattle.supports.proofs.ask.Tie as tie

@@ -1,4 +1,4 @@
--- `questions::explain` meets its contract. The invariant, over a copy of the mutex words: no selection covers the facts kept, and those left to try are outside why.
+-- `supports::explain` meets its contract. The invariant, over a copy of the mutex words: no selection covers the facts kept, and those left to try are outside why.
 -- The measure is the number of the set of facts left.
 use borrow.Author.Needs.{needs}
 use mathlib.Core.Path.{sym, subst}
@@ -7,9 +7,8 @@ use Prim.Native.Nat.{ℕ, _^_}
 use denote.Ref.{now}
 use Rattle.sets.specs.Sets.{lowest}
 use Rattle.sets.proofs.Bits.{part-refl}
-use Rattle.network.specs.Network.{listed}
-use Rattle.tables.specs.Tables.{Tabled}
-use Rattle.choice.specs.Choice.{Cover}
+use Rattle.network.specs.Network.{listed, Cover}
+use Rattle.network.specs.Tables.{Tabled}
 use Rattle.supports.specs.Questions.{Uncovered}
 use Rattle.supports.proofs.LayerLaws.{Outside, outside-start, outside-turn, outside-lowest}
 use Rattle.supports.proofs.explain.Statement.{statement}

@@ -1,4 +1,4 @@
--- `questions::fewer` meets its contract.
+-- `supports::fewer` meets its contract.
 use borrow.Author.Needs.{needs}
 use mathlib.Core.Path.{sym, _∙_}
 use denote.Ref.{now}

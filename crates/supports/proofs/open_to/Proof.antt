@@ -1,4 +1,4 @@
--- `questions::open_to` meets its contract. The invariant, `Opening`: the vertices left are members, and of the others `open` has those
+-- `supports::open_to` meets its contract. The invariant, `Opening`: the vertices left are members, and of the others `open` has those
 -- whose needs lie in the facts. The measure is the number of the set of vertices left.
 use borrow.Author.Needs.{needs}
 use Rattle.supports.proofs.LayerLaws.{Opening, opening-start, opening-turn, opening-end}

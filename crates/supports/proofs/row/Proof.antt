@@ -1,10 +1,10 @@
--- `questions::row` meets its contract. The invariant: the words below i are copied. The measure is how many words are left.
+-- `supports::row` meets its contract. The invariant: the words below i are copied. The measure is how many words are left.
 use borrow.Author.Needs.{needs}
 use mathlib.Core.Path.{refl}
 use Prim.Native.Nat.{_+_, _*_, _-_, _≤_}
 use native.Mathlib.Omega.{arith}
 use lib.ListN.{getD}
-use Rattle.tables.proofs.TableLaws.{Filled, filled-turn}
+use Rattle.sets.proofs.Filled.{Filled, filled-turn}
 use Rattle.supports.proofs.LayerLaws.{row-end}
 use Rattle.supports.proofs.row.Statement.{statement}
 use Rattle.supports.proofs.row.Tie as tie

@@ -3,7 +3,7 @@ use borrow.Author.Needs.{needs}
 use borrow.Fn.Kinds.{In}
 use borrow.Fn.PlainCycle.{Measures, is, falls, and}
 use Prim.Native.Nat.{ℕ, _<_}
-use Rattle.text.specs.Pages.{shown}
+use Rattle.text.specs.Meaning.{shown}
 use Rattle.text.proofs.TextLaws.{number-one, number-more}
 use Rattle.text.proofs.number.Reads as number
 use Rattle.text.proofs.number.Kinds as number-kinds

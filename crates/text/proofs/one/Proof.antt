@@ -1,6 +1,6 @@
 -- `text::one` meets its contract: the member stands behind the text of the page, or the page stays as it is.
 use borrow.Author.Needs.{needs}
-use Rattle.text.specs.Pages.{shown}
+use Rattle.text.specs.Meaning.{shown}
 use Rattle.text.proofs.TextLaws.{stays, one-member, no-member}
 use Rattle.text.proofs.one.Statement.{statement}
 use Rattle.text.proofs.one.Tie as tie

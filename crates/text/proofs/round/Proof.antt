@@ -1,6 +1,6 @@
 -- `text::round` meets its contract: its four parts stand one behind the other.
 use borrow.Author.Needs.{needs}
-use Rattle.text.specs.Pages.{shown}
+use Rattle.text.specs.Meaning.{shown}
 use Rattle.text.proofs.TextLaws.{round-made}
 use Rattle.text.proofs.round.Statement.{statement}
 use Rattle.text.proofs.round.Tie as tie

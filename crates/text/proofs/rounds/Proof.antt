@@ -5,7 +5,7 @@ use mathlib.Core.Path.{_≡_, ap, _∙_}
 use Prim.Native.Nat.{ℕ, _-_, _≤_}
 use native.Mathlib.Omega.{arith}
 use Rattle.text.specs.Text.{roundTexts}
-use Rattle.text.specs.Pages.{shown, extended}
+use Rattle.text.specs.Meaning.{shown, extended}
 use Rattle.text.proofs.TextLaws.{stays, rounds-turn, four-parts, rounds-fits}
 use Rattle.text.proofs.rounds.Statement.{statement}
 use Rattle.text.proofs.rounds.Tie as tie

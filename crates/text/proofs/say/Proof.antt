@@ -4,7 +4,7 @@ use mathlib.Core.Path.{_≡_}
 use Prim.Native.Nat.{_-_, _≤_}
 use native.Mathlib.Omega.{arith}
 use lib.ListN.{length, take}
-use Rattle.text.specs.Pages.{shown, extended}
+use Rattle.text.specs.Meaning.{shown, extended}
 use Rattle.text.proofs.TextLaws.{stays, say-turn, say-end}
 use Rattle.text.proofs.say.Statement.{statement}
 use Rattle.text.proofs.say.Tie as tie

@@ -4,7 +4,7 @@ use mathlib.Core.Path.{_≡_, ap, _∙_}
 use Prim.Native.Nat.{ℕ, _-_, _≤_}
 use native.Mathlib.Omega.{arith}
 use Rattle.text.specs.Text.{members}
-use Rattle.text.specs.Pages.{shown, extended}
+use Rattle.text.specs.Meaning.{shown, extended}
 use Rattle.text.proofs.TextLaws.{stays, set-turn}
 use Rattle.text.proofs.set.Statement.{statement}
 use Rattle.text.proofs.set.Tie as tie

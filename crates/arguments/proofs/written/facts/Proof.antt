@@ -1,4 +1,4 @@
--- `lending::written::facts` meets its contract. The invariant: the words in front of word i are written, and the others keep.
+-- `arguments::written::facts` meets its contract. The invariant: the words in front of word i are written, and the others keep.
 use borrow.Author.Needs.{needs}
 use mathlib.Core.Path.{_≡_, refl}
 use mathlib.Core.List.{_++_}

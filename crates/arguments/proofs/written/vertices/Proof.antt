@@ -1,4 +1,4 @@
--- `lending::written::vertices` meets its contract. The invariant: the words in front of word i are written, and the others keep.
+-- `arguments::written::vertices` meets its contract. The invariant: the words in front of word i are written, and the others keep.
 use borrow.Author.Needs.{needs}
 use mathlib.Core.Path.{_≡_, refl, _∙_}
 use mathlib.Core.List.{_++_}

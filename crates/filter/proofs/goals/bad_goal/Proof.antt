@@ -1,4 +1,4 @@
--- `filtering::goals::bad_goal` meets its contract.
+-- `filter::goals::bad_goal` meets its contract.
 use borrow.Author.Needs.{needs}
 use mathlib.Core.Path.{_≡_}
 use native.Mathlib.Omega.{arith}

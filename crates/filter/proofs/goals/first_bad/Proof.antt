@@ -1,4 +1,4 @@
--- `filtering::goals::first_bad` meets its contract. The invariant: the goals before those that are left are in order.
+-- `filter::goals::first_bad` meets its contract. The invariant: the goals before those that are left are in order.
 use borrow.Author.Needs.{needs}
 use mathlib.Core.Path.{_≡_, refl, sym, ap, _∙_}
 use mathlib.Core.Bool.{Bool}
@@ -8,9 +8,9 @@ use native.Mathlib.Omega.{arith}
 use lib.ListN.{length, getD}
 use Rattle.sets.specs.First.{firstFrom}
 use Rattle.sets.proofs.First.{first-here, first-nowhere, left-next}
-use Rattle.network.specs.Filter.{badGoal, firstBad}
+use Rattle.filter.specs.Filter.{badGoal, firstBad}
 use Rattle.filter.specs.declared.goals.Goals.the-variants as Goals
-use Rattle.filter.specs.Answers.{goalsBy}
+use Rattle.filter.specs.Meaning.{goalsBy}
 use Rattle.filter.proofs.GoalLaws.{all-left}
 use Rattle.filter.proofs.goals.first_bad.Statement.{statement}
 use Rattle.filter.proofs.goals.first_bad.Tie as tie

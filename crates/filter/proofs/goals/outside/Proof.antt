@@ -1,4 +1,4 @@
--- `filtering::goals::outside` meets its contract.
+-- `filter::goals::outside` meets its contract.
 use borrow.Author.Needs.{needs}
 use mathlib.Core.Path.{_∙_}
 use Prim.Native.Nat.{_<_, _^_}

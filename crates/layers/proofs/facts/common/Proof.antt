@@ -1,4 +1,4 @@
--- `layering::facts::common` meets its contract. The invariant: what is found, as far as the rows of the members left share it too, is what the rows
+-- `layers::facts::common` meets its contract. The invariant: what is found, as far as the rows of the members left share it too, is what the rows
 -- of all members share. The measure is the number of the set of members left.
 use borrow.Author.Needs.{needs}
 use mathlib.Core.Path.{_≡_, sym, _∙_}

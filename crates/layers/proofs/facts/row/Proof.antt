@@ -1,4 +1,4 @@
--- `layering::facts::row` meets its contract.
+-- `layers::facts::row` meets its contract.
 use borrow.Author.Needs.{needs}
 use Prim.Native.Nat.{_^_, _<_}
 use Rattle.layers.proofs.FactCode.{row-made}

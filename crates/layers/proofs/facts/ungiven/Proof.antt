@@ -1,4 +1,4 @@
--- `layering::facts::ungiven` meets its contract. The invariant: what is kept, with those members left that pass, is what passes of all. The
+-- `layers::facts::ungiven` meets its contract. The invariant: what is kept, with those members left that pass, is what passes of all. The
 -- measure is the number of the set of members left.
 use borrow.Author.Needs.{needs}
 use mathlib.Core.Path.{_≡_, sym, ap, _∙_}

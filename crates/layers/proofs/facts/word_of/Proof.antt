@@ -1,9 +1,9 @@
--- `layering::facts::word_of` meets its contract.
+-- `layers::facts::word_of` meets its contract.
 use borrow.Author.Needs.{needs}
 use mathlib.Core.List.{[]}
 use Rattle.planning.specs.Rounds.{listedSteps}
 use Rattle.planning.specs.Layers.{excluded}
-use Rattle.layers.specs.Drawn.{layer}
+use Rattle.layers.specs.Meaning.{layer}
 use Rattle.layers.proofs.RoundCode.{word-absent, word-there}
 use Rattle.layers.proofs.facts.word_of.Statement.{statement}
 use Rattle.layers.proofs.facts.word_of.Tie as tie

@@ -1,4 +1,4 @@
--- `layering::facts::words` meets its contract. The invariant: the words of the facts below p are made, and 0 stands behind them. The measure is how many
+-- `layers::facts::words` meets its contract. The invariant: the words of the facts below p are made, and 0 stands behind them. The measure is how many
 -- facts are left.
 use borrow.Author.Needs.{needs}
 use mathlib.Core.Path.{_≡_, ap, _∙_}
@@ -6,10 +6,10 @@ use mathlib.Core.List.{[]}
 use Prim.Native.Nat.{ℕ, _-_, _≤_}
 use native.Mathlib.Omega.{arith}
 use Rattle.sets.specs.Ranges.{listTo}
-use Rattle.jobfile.specs.Answers.{padded}
+use Rattle.jobfile.specs.Meaning.{padded}
 use Rattle.planning.specs.Rounds.{listedSteps}
 use Rattle.planning.specs.Layers.{mutexWord, mutexes, excluded}
-use Rattle.layers.specs.Drawn.{layer}
+use Rattle.layers.specs.Meaning.{layer}
 use Rattle.layers.proofs.FactCode.{padded-start, padded-turn}
 use Rattle.layers.proofs.facts.words.Statement.{statement}
 use Rattle.layers.proofs.facts.words.Tie as tie

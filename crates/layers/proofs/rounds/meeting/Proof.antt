@@ -1,4 +1,4 @@
--- `layering::rounds::meeting` meets its contract.
+-- `layers::rounds::meeting` meets its contract.
 use borrow.Author.Needs.{needs}
 use mathlib.Core.Path.{ap, _∙_}
 use Prim.Native.Nat.{ℕ, _^_, _<_}

@@ -1,4 +1,4 @@
--- `layering::rounds::row` meets its contract.
+-- `layers::rounds::row` meets its contract.
 use borrow.Author.Needs.{needs}
 use mathlib.Core.Path.{ap, _∙_}
 use Prim.Native.Nat.{ℕ, _^_, _<_}
@@ -6,7 +6,7 @@ use native.Mathlib.Omega.{arith}
 use lib.ListN.{getD}
 use Rattle.sets.specs.Sets.{meets}
 use Rattle.planning.specs.Rounds.{listedSteps}
-use Rattle.layers.specs.Drawn.{layer}
+use Rattle.layers.specs.Meaning.{layer}
 use Rattle.layers.proofs.RoundCode.{opposed-made, row-made}
 use Rattle.layers.proofs.rounds.row.Statement.{statement}
 use Rattle.layers.proofs.rounds.row.Tie as tie

@@ -1,4 +1,4 @@
--- `layering::rounds::standing` meets its contract. The invariant: the set so far is that of the vertices seen that stand. The measure is how many
+-- `layers::rounds::standing` meets its contract. The invariant: the set so far is that of the vertices seen that stand. The measure is how many
 -- vertices are left.
 use borrow.Author.Needs.{needs}
 use mathlib.Core.Path.{_≡_, refl, ap, _∙_}
@@ -10,7 +10,7 @@ use Rattle.sets.specs.Ranges.{sumTo}
 use Rattle.sets.specs.Sets.{setOf}
 use Rattle.planning.specs.Rounds.{listedSteps}
 use Rattle.planning.specs.Layers.{stands, standing}
-use Rattle.layers.specs.Drawn.{layer}
+use Rattle.layers.specs.Meaning.{layer}
 use Rattle.layers.proofs.rounds.standing.Statement.{statement}
 use Rattle.layers.proofs.rounds.standing.Tie as tie
 

@@ -1,10 +1,10 @@
--- `layering::rounds::stands` meets its contract.
+-- `layers::rounds::stands` meets its contract.
 use borrow.Author.Needs.{needs}
 use mathlib.Core.List.{[]}
 use native.Mathlib.Omega.{arith}
 use lib.ListN.{getD}
 use Rattle.planning.specs.Rounds.{listedSteps}
-use Rattle.layers.specs.Drawn.{layer}
+use Rattle.layers.specs.Meaning.{layer}
 use Rattle.layers.proofs.RoundCode.{opposed-made, stands-lacks, stands-there}
 use Rattle.layers.proofs.rounds.stands.Statement.{statement}
 use Rattle.layers.proofs.rounds.stands.Tie as tie

@@ -1,12 +1,12 @@
--- `layering::rounds::used` meets its contract. The invariant: the words below x are made. The measure is how many words are left.
+-- `layers::rounds::used` meets its contract. The invariant: the words below x are made. The measure is how many words are left.
 use borrow.Author.Needs.{needs}
 use mathlib.Core.Path.{refl}
 use mathlib.Core.List.{[]}
 use Prim.Native.Nat.{_-_, _≤_}
 use native.Mathlib.Omega.{arith}
-use Rattle.tables.proofs.TableLaws.{Filled, filled-start, filled-turn, filled-end}
+use Rattle.sets.proofs.Filled.{Filled, filled-start, filled-turn, filled-end}
 use Rattle.planning.specs.Rounds.{listedSteps}
-use Rattle.layers.specs.Drawn.{uses}
+use Rattle.layers.specs.Meaning.{uses}
 use Rattle.layers.proofs.rounds.used.Statement.{statement}
 use Rattle.layers.proofs.rounds.used.Tie as tie
 

@@ -1,8 +1,8 @@
--- `layering::rounds::word_of` meets its contract.
+-- `layers::rounds::word_of` meets its contract.
 use borrow.Author.Needs.{needs}
 use Rattle.planning.specs.Rounds.{listedSteps}
 use Rattle.planning.specs.Layers.{rivals}
-use Rattle.layers.specs.Drawn.{layer}
+use Rattle.layers.specs.Meaning.{layer}
 use Rattle.layers.proofs.RoundCode.{word-absent, word-there}
 use Rattle.layers.proofs.rounds.word_of.Statement.{statement}
 use Rattle.layers.proofs.rounds.word_of.Tie as tie

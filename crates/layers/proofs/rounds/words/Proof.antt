@@ -1,7 +1,7 @@
--- `layering::rounds::words` meets its contract.
+-- `layers::rounds::words` meets its contract.
 use borrow.Author.Needs.{needs}
 use mathlib.Core.Path.{ap, _∙_}
-use Rattle.tables.specs.Tables.{transposed}
+use Rattle.sets.specs.Tables.{transposed}
 use Rattle.layers.proofs.rounds.words.Statement.{statement}
 use Rattle.layers.proofs.rounds.words.Tie as tie
 

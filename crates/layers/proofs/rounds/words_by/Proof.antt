@@ -1,11 +1,11 @@
--- `layering::rounds::words_by` meets its contract. The invariant: the words of the vertices below x are made. The measure is how many vertices are left.
+-- `layers::rounds::words_by` meets its contract. The invariant: the words of the vertices below x are made. The measure is how many vertices are left.
 use borrow.Author.Needs.{needs}
 use Prim.Native.Nat.{_-_, _≤_}
 use native.Mathlib.Omega.{arith}
-use Rattle.tables.proofs.TableLaws.{Filled, filled-start, filled-turn, filled-end}
+use Rattle.sets.proofs.Filled.{Filled, filled-start, filled-turn, filled-end}
 use Rattle.planning.specs.Rounds.{listedSteps}
 use Rattle.planning.specs.Layers.{mutexWord, mutexes, rivals}
-use Rattle.layers.specs.Drawn.{layer}
+use Rattle.layers.specs.Meaning.{layer}
 use Rattle.layers.proofs.rounds.words_by.Statement.{statement}
 use Rattle.layers.proofs.rounds.words_by.Tie as tie
 

@@ -1,4 +1,4 @@
--- `layering::vertices::entry` meets its contract.
+-- `layers::vertices::entry` meets its contract.
 use borrow.Author.Needs.{needs}
 use Rattle.layers.proofs.RoundCode.{vertex-keeper, vertex-step}
 use Rattle.layers.proofs.vertices.entry.Statement.{statement}

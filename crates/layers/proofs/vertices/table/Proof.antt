@@ -1,9 +1,9 @@
--- `layering::vertices::table` meets its contract. The invariant: the words of the vertices below x are made. The measure is how many vertices are left.
+-- `layers::vertices::table` meets its contract. The invariant: the words of the vertices below x are made. The measure is how many vertices are left.
 use borrow.Author.Needs.{needs}
 use Prim.Native.Nat.{_-_, _≤_}
 use native.Mathlib.Omega.{arith}
-use Rattle.tables.proofs.TableLaws.{Filled, filled-start, filled-turn, filled-end}
-use Rattle.layers.specs.Drawn.{vertexWords}
+use Rattle.sets.proofs.Filled.{Filled, filled-start, filled-turn, filled-end}
+use Rattle.layers.specs.Meaning.{vertexWords}
 use Rattle.layers.proofs.vertices.table.Statement.{statement}
 use Rattle.layers.proofs.vertices.table.Tie as tie
 

@@ -1,10 +1,10 @@
--- `matching::likeness::alike` meets its contract.
+-- `names::likeness::alike` meets its contract.
 use borrow.Author.Needs.{needs}
 use mathlib.Core.Path.{_≡_, sym, _∙_}
 use mathlib.Core.Bool.{true, false}
 use lib.Dec.{eqb}
 use borrow.Author.Tests.{eq-eqb, ne-eqb, not-true, not-false}
-use Rattle.names.specs.Same.{sameList}
+use Rattle.names.specs.Names.{sameList}
 use Rattle.names.proofs.likeness.alike.Statement.{statement}
 use Rattle.names.proofs.likeness.alike.Tie as tie
 

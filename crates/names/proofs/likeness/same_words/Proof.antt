@@ -1,4 +1,4 @@
--- `matching::likeness::same_words` meets its contract. The invariant: the words before i are the same.
+-- `names::likeness::same_words` meets its contract. The invariant: the words before i are the same.
 use borrow.Author.Needs.{needs}
 use mathlib.Core.Path.{_≡_}
 use Prim.Native.Nat.{ℕ, _-_, _≤_, _<_}

@@ -11,7 +11,7 @@ use Rattle.sets.specs.First.{firstFrom}
 use Rattle.sets.proofs.First.{first-here, first-nowhere, left-start, left-next}
 use Rattle.network.specs.Network.{listed}
 use Rattle.network.specs.Groups.{misplaced, firstMisplaced, grouped}
-use Rattle.network.specs.Answers.{lentBy}
+use Rattle.network.specs.Meaning.{lentBy}
 use Rattle.network.proofs.MaskLaws.{masks-start, masks-length, masks-turn}
 use Rattle.network.proofs.LentLaws.{range}
 use Rattle.network.proofs.lent.first_misplaced.Statement.{statement}

@@ -3,7 +3,7 @@ use borrow.Author.Needs.{needs}
 use mathlib.Core.Path.{sym, ap, _∙_}
 use lib.ListN.{length}
 use borrow.Author.Tests.{lt-ltb, le-ltb}
-use Rattle.reading.specs.Cursors.{finished}
+use Rattle.reading.specs.Meaning.{finished}
 use Rattle.reading.proofs.item.finish.Statement.{statement}
 use Rattle.reading.proofs.item.finish.Tie as tie
 

@@ -1,7 +1,7 @@
 -- `reading::item::kind` meets its contract.
 use borrow.Author.Needs.{needs}
 use mathlib.Core.Path.{ap, _∙_}
-use Rattle.reading.specs.Cursors.{gotBy}
+use Rattle.reading.specs.Meaning.{gotBy}
 use Rattle.reading.proofs.StepLaws.{kind-none, kind-found, kind-other}
 use Rattle.reading.proofs.item.kind.Statement.{statement}
 use Rattle.reading.proofs.item.kind.Tie as tie

@@ -6,7 +6,7 @@ use native.Mathlib.Omega.{arith}
 use lib.ListN.{length}
 use borrow.Author.Tests.{not-true, not-false, ltb-false}
 use Rattle.reading.specs.Items.{nameAt, spots}
-use Rattle.reading.specs.Cursors.{gotBy}
+use Rattle.reading.specs.Meaning.{gotBy}
 use Rattle.reading.proofs.StepLaws.{from-absent, from-marked, name-refused, name-short, name-found}
 use Rattle.reading.proofs.item.name.Statement.{statement}
 use Rattle.reading.proofs.item.name.Tie as tie

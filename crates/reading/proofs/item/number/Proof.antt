@@ -5,7 +5,7 @@ use Prim.Native.Nat.{_+_}
 use lib.ListN.{length}
 use borrow.Author.Tests.{ltb-false}
 use Rattle.reading.specs.Items.{numberAt}
-use Rattle.reading.specs.Cursors.{gotBy}
+use Rattle.reading.specs.Meaning.{gotBy}
 use Rattle.reading.proofs.StepLaws.{from-at, number-short, number-found}
 use Rattle.reading.proofs.item.number.Statement.{statement}
 use Rattle.reading.proofs.item.number.Tie as tie

@@ -2,7 +2,7 @@
 use borrow.Author.Needs.{needs}
 use mathlib.Core.Path.{sym, ap}
 use Rattle.reading.specs.declared.item.Cursor.{Cursor}
-use Rattle.reading.specs.Cursors.{stopped}
+use Rattle.reading.specs.Meaning.{stopped}
 use Rattle.reading.proofs.item.stop.Statement.{statement}
 use Rattle.reading.proofs.item.stop.Tie as tie
 

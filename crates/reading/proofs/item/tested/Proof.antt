@@ -4,7 +4,7 @@ use mathlib.Core.Path.{_≡_, refl, ap, _∙_}
 use mathlib.Core.Bool.{true, false}
 use borrow.Author.Tests.{not-true, not-false}
 use Rattle.reading.specs.declared.item.Cursor.{Cursor}
-use Rattle.reading.specs.Cursors.{gotBy}
+use Rattle.reading.specs.Meaning.{gotBy}
 use Rattle.reading.proofs.StepLaws.{fault-stops, fine-goes}
 use Rattle.reading.proofs.item.tested.Statement.{statement}
 use Rattle.reading.proofs.item.tested.Tie as tie

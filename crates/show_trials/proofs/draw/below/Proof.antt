@@ -1,4 +1,4 @@
--- `trials::draw::below` gives a number below n.
+-- `show_trials::draw::below` gives a number below n.
 use borrow.Author.Needs.{needs}
 use Prim.Native.Nat.{_/_}
 use native.Mathlib.Nat.{mod-lt}

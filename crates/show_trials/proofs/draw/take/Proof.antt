@@ -1,4 +1,4 @@
--- `trials::draw::take` ends, and draws only numbers below 64. The measure is how many draws are left.
+-- `show_trials::draw::take` ends, and draws only numbers below 64. The measure is how many draws are left.
 use borrow.Author.Needs.{needs}
 use Prim.Native.Nat.{_-_, _≤_}
 use Rattle.show_trials.proofs.draw.take.Statement.{statement}

@@ -1,4 +1,4 @@
--- `trials::file::written` ends, and stays within the bytes: a record has at most 13. The measure is how many steps are left.
+-- `show_trials::file::written` ends, and stays within the bytes: a record has at most 13. The measure is how many steps are left.
 use borrow.Author.Needs.{needs}
 use Prim.Native.Nat.{_+_, _*_, _-_, _≤_}
 use Rattle.show_trials.proofs.file.written.Statement.{statement}

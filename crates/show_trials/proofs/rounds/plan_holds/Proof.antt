@@ -1,4 +1,4 @@
--- `trials::rounds::plan_holds` ends, and stays within the words. The measure is how many rounds are left.
+-- `show_trials::rounds::plan_holds` ends, and stays within the words. The measure is how many rounds are left.
 use borrow.Author.Needs.{needs}
 use Prim.Native.Nat.{_-_, _≤_}
 use Rattle.show_trials.proofs.rounds.plan_holds.Statement.{statement}

@@ -1,4 +1,4 @@
--- `trials::rounds::undisturbed` ends. The measure is the number of the set of steps left.
+-- `show_trials::rounds::undisturbed` ends. The measure is the number of the set of steps left.
 use borrow.Author.Needs.{needs}
 use Prim.Native.Nat.{_<_, _^_}
 use Rattle.show_trials.proofs.rounds.undisturbed.Statement.{statement}

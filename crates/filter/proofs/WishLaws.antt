@@ -1,0 +1,20 @@
+-- The filter looks at wishes only: it does not depend on the clashes. Assumes nothing.
+use mathlib.Core.Path.{_≡_, refl, ap}
+use mathlib.Core.List.{List, [], _∷_}
+use Prim.Native.Nat.{ℕ}
+use Rattle.sets.specs.Sets.{full, without}
+use Rattle.network.specs.Network.{listed}
+use Rattle.filter.specs.Filter.{share, contribution, others, supported, pass, passes, setAside}
+
+pub pass-listed : (n : ℕ) (ws cs ds : List ℕ) (group : ℕ → ℕ) (live p : ℕ) → pass (listed n ws cs) group live p ≡ pass (listed n ws ds) group live p
+unfolding pass supported others contribution share
+pass-listed n ws cs ds group live p = refl
+
+pub passes-listed : (n : ℕ) (ws cs ds : List ℕ) (group : ℕ → ℕ) (live : ℕ) (goals : List ℕ) → passes (listed n ws cs) group live goals ≡ passes (listed n ws ds) group live goals
+unfolding passes pass supported others contribution share
+passes-listed n ws cs ds group live [] = refl
+passes-listed n ws cs ds group live (p ∷ ps) = passes-listed n ws cs ds group (pass (listed n ws cs) group live p) ps
+
+pub aside-listed : (n : ℕ) (ws cs ds : List ℕ) (group : ℕ → ℕ) (goals : List ℕ) → setAside (listed n ws cs) group goals ≡ setAside (listed n ws ds) group goals
+unfolding setAside
+aside-listed n ws cs ds group goals = ap (without (full n)) (passes-listed n ws cs ds group (full n) goals)

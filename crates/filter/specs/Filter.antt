@@ -1,0 +1,66 @@
+-- The projection filter (docs/RULES.md, "Filter pass"; 001, definitions 3 and 4). Groups, live set and projection goal are given.
+use mathlib.Core.Bool.{Bool, not, _&&_, _||_}
+use mathlib.Core.List.{List, [], _∷_}
+use mathlib.Core.Option.{Option}
+use Prim.Native.Nat.{ℕ, _^_}
+use lib.Bits.{bitAnd}
+use lib.Dec.{leb, eqb}
+use lib.ListN.{length, getD}
+use Rattle.sets.specs.Ranges.{given, sumTo, maxTo}
+use Rattle.sets.specs.Sets.{_⊆_, member, part, without, full, setOf, count}
+use Rattle.sets.specs.First.{firstFrom}
+use Rattle.network.specs.Network.{Network}
+
+-- ---- what is lent
+
+-- reason 12: the live set names an article that a file of n articles lacks
+unfoldable pub outside : ℕ → ℕ → Bool
+outside n live = leb (2 ^ n) live
+
+-- reason 13: a goal is empty or not within the order
+unfoldable pub badGoal : ℕ → ℕ → Bool
+badGoal order p = eqb p 0 || not (part p order)
+
+-- the index of the first such goal, its place
+unfoldable pub firstBad : ℕ → List ℕ → Option ℕ
+firstBad order goals = firstFrom (λ i. badGoal order (getD goals i 0)) (length goals) 0
+
+-- ---- the pass
+
+-- the wishes of p that article u carries, counted; none where u is not live or not of group j
+unfoldable pub share : Network → (ℕ → ℕ) → ℕ → ℕ → ℕ → ℕ → ℕ
+share N group live p j u = given (member live u && eqb (group u) j) (count (bitAnd (N .wishes u) p))
+
+-- the contribution of group j: the most wishes of p that one live article of it carries, 0 if none is live (001, definition 3)
+unfoldable pub contribution : Network → (ℕ → ℕ) → ℕ → ℕ → ℕ → ℕ
+contribution N group live p j = maxTo (N .articles) (share N group live p j)
+
+-- the sum of all contributions
+unfoldable pub total : Network → (ℕ → ℕ) → ℕ → ℕ → ℕ
+total N group live p = sumTo (N .articles) (contribution N group live p)
+
+-- the sum of the contributions of all groups but k
+unfoldable pub others : Network → (ℕ → ℕ) → ℕ → ℕ → ℕ → ℕ
+others N group live p k = sumTo (N .articles) (λ j. given (not (eqb j k)) (contribution N group live p j))
+
+-- whether v is supported: the other groups contribute at least as many wishes as p has beyond those of v (001, definition 4)
+unfoldable pub supported : Network → (ℕ → ℕ) → ℕ → ℕ → ℕ → Bool
+supported N group live p v = leb (count (without p (N .wishes v))) (others N group live p (group v))
+
+-- a pass: the live articles that are supported; the contributions are those before it
+unfoldable pub pass : Network → (ℕ → ℕ) → ℕ → ℕ → ℕ
+pass N group live p = setOf (N .articles) (λ v. member live v && supported N group live p v)
+
+-- a pass for each goal, in turn
+unfoldable pub passes : Network → (ℕ → ℕ) → ℕ → List ℕ → ℕ
+passes N group live [] = live
+passes N group live (p ∷ ps) = passes N group (pass N group live p) ps
+
+-- every goal lies within the order
+abbrev pub GoalsWithin : ℕ → List ℕ → Type 0
+GoalsWithin order [] = Unit {0}
+GoalsWithin order (p ∷ ps) = (p ⊆ order) × GoalsWithin order ps
+
+-- the articles that are no longer live after the passes, where all were live before
+unfoldable pub setAside : Network → (ℕ → ℕ) → List ℕ → ℕ
+setAside N group goals = without (full (N .articles)) (passes N group (full (N .articles)) goals)

@@ -1,0 +1,153 @@
+-- What the code's types mean.
+use mathlib.Core.Path.{_≡_}
+use mathlib.Core.List.{List, [], _∷_, map}
+use Prim.Native.Nat.{ℕ, _+_, _≤_}
+use lib.ListN.{length, getD}
+use Rattle.sets.specs.Ranges.{listTo}
+use Rattle.reading.specs.declared.Spot.{Spot}
+use Rattle.jobfile.specs.declared.records.Kind.{Kind}
+use Rattle.jobfile.specs.declared.records.Kind.the-variants.{Choice, Fitting}
+use Rattle.jobfile.specs.declared.records.Record as Found
+use Rattle.jobfile.specs.declared.records.Records.{Records}
+use Rattle.reading.specs.Got.{Got, got, refused}
+use Rattle.reading.specs.Meaning.{gotBy}
+use Rattle.jobfile.specs.Layout.{Layout, choice, fitting}
+use Rattle.jobfile.specs.declared.Verdict.{Verdict}
+use Rattle.jobfile.specs.declared.Verdict.the-variants as Verdict
+use Rattle.jobfile.specs.declared.ReadChoice.{ReadChoice}
+use Rattle.jobfile.specs.declared.ReadFitting.{ReadFitting}
+use Rattle.reading.specs.Items.{spots}
+use Rattle.jobfile.specs.Read.{read, choices, fittings}
+use Rattle.jobfile.specs.Job.{Record, Job, namesOf, size, wishCount, order, wishes, clashes, factCount, horizon, start, goal, needs, gives, takes}
+
+-- ---- records, by the kind of their file
+
+abbrev pub layoutBy : Kind → Layout
+layoutBy Choice = choice
+layoutBy Fitting = fitting
+
+abbrev pub setsBy : Kind → ℕ → ℕ → ℕ → List ℕ
+setsBy Choice a b c = a ∷ b ∷ []
+setsBy Fitting a b c = a ∷ b ∷ c ∷ []
+
+abbrev pub recordOf : Kind → Found.Record → Got (Record Spot)
+recordOf kind r = gotBy (record { before = setsBy kind (r .first) (r .second) (r .third); name = r .spot; after = [] }) (r .next)
+
+-- a record of a choice has no third set, and a name stands within its file
+abbrev pub Tidy : Kind → ℕ → ℕ → ℕ → ℕ → Type 0
+Tidy Choice size third start len = (third ≡ 0) × (start + len ≤ size)
+Tidy Fitting size third start len = start + len ≤ size
+
+-- record i of the columns
+abbrev pub recordFrom : Kind → List ℕ → List ℕ → List ℕ → List ℕ → List ℕ → ℕ → Record Spot
+recordFrom kind first second third starts lens i =
+    record { before = setsBy kind (getD first i 0) (getD second i 0) (getD third i 0); name = record { start = getD starts i 0; len = getD lens i 0 }; after = [] }
+
+abbrev pub recordsOf : Kind → ℕ → Records → Got (List (Record Spot))
+recordsOf kind n r = gotBy (listTo n (recordFrom kind (r .first) (r .second) (r .third) (r .starts) (r .lens))) (r .next)
+
+-- the columns have 64 elements, 0 from n on, a choice has no third set, and names stand within the file
+pub record Column (n : ℕ) (l : List ℕ) : Type 0 where
+  pub size : length l ≡ 64
+  pub past : (i : ℕ) → n ≤ i → getD l i 0 ≡ 0
+
+pub record Columns (kind : Kind) (n size : ℕ) (r : Records) : Type 0 where
+  pub first : Column n (r .first)
+  pub second : Column n (r .second)
+  pub third : Column n (r .third)
+  pub starts : Column n (r .starts)
+  pub lens : Column n (r .lens)
+  pub tidy : (i : ℕ) → Tidy kind size (getD (r .third) i 0) (getD (r .starts) i 0) (getD (r .lens) i 0)
+
+-- ---- files
+
+-- a list in an array of this size, with 0 behind its end
+abbrev pub padded : ℕ → List ℕ → List ℕ
+padded size l = listTo size (λ i. getD l i 0)
+
+abbrev pub startsOf : List (Record Spot) → List ℕ
+startsOf records = map (λ r. r .name .start) records
+
+abbrev pub lensOf : List (Record Spot) → List ℕ
+lensOf records = map (λ r. r .name .len) records
+
+-- a choice file as read: the job that it states, with the spots of its names, or the refusal and nothing else
+abbrev pub choiceRead : Got (Job Spot) → ReadChoice
+choiceRead (refused reason place) = record {
+  verdict = Verdict.Refused (record { reason = reason; place = place });
+  articles = 0;
+  «wish_count» = 0;
+  order = 0;
+  wishes = padded 64 [];
+  clashes = padded 64 [];
+  starts = padded 64 [];
+  lens = padded 64 [];
+}
+choiceRead (got job end) = record {
+  verdict = Verdict.Accepted;
+  articles = size job;
+  «wish_count» = wishCount job;
+  order = order job;
+  wishes = padded 64 (wishes job);
+  clashes = padded 64 (clashes job);
+  starts = padded 64 (startsOf (job .records));
+  lens = padded 64 (lensOf (job .records));
+}
+
+abbrev pub fittingRead : Got (Job Spot) → ReadFitting
+fittingRead (refused reason place) = record {
+  verdict = Verdict.Refused (record { reason = reason; place = place });
+  steps = 0;
+  facts = 0;
+  horizon = 0;
+  start = 0;
+  goal = 0;
+  needs = padded 64 [];
+  gives = padded 64 [];
+  takes = padded 64 [];
+  starts = padded 64 [];
+  lens = padded 64 [];
+}
+fittingRead (got job end) = record {
+  verdict = Verdict.Accepted;
+  steps = size job;
+  facts = factCount job;
+  horizon = horizon job;
+  start = start job;
+  goal = goal job;
+  needs = padded 64 (needs job);
+  gives = padded 64 (gives job);
+  takes = padded 64 (takes job);
+  starts = padded 64 (startsOf (job .records));
+  lens = padded 64 (lensOf (job .records));
+}
+
+-- as many records as are counted, and no more than a limit
+abbrev pub Few : ℕ → Got (Job Spot) → Type 0
+Few limit (refused reason place) = Unit {0}
+Few limit (got job end) = (length (job .records) ≡ size job) × (size job ≤ limit)
+
+-- every name stands within a file of this length
+abbrev pub NamesWithin : ℕ → List ℕ → List ℕ → Type 0
+NamesWithin end starts lens = (i : ℕ) → getD starts i 0 + getD lens i 0 ≤ end
+
+-- element i of the columns of names: 0 and 0 behind their end
+abbrev pub spotOf : List ℕ → List ℕ → ℕ → Spot
+spotOf starts lens i = record { start = getD starts i 0; len = getD lens i 0 }
+
+-- where the name of record i stands: nowhere for a refused file, an absent number or no name
+abbrev pub spotIn : Got (Job Spot) → ℕ → Spot
+spotIn (refused reason place) i = record { start = 0; len = 0 }
+spotIn (got job end) i = getD (namesOf (job .records)) i (record { start = 0; len = 0 })
+
+-- the name of record i: empty for a refused file, an absent number or no name
+abbrev pub nameIn : Got (Job (List ℕ)) → ℕ → List ℕ
+nameIn (refused reason place) i = []
+nameIn (got job end) i = getD (namesOf (job .records)) i []
+
+-- what a reader keeps to beside its equation: the limits, and names within the file
+abbrev pub ChoiceBounds : List ℕ → ReadChoice → Type 0
+ChoiceBounds f r = (r .articles ≤ 64) × (r .«wish_count» ≤ 64) × NamesWithin (length f) (r .starts) (r .lens) × Few 64 (read spots choices f)
+
+abbrev pub FittingBounds : List ℕ → ReadFitting → Type 0
+FittingBounds f r = (r .steps ≤ 32) × (r .facts ≤ 32) × (r .horizon ≤ 16) × NamesWithin (length f) (r .starts) (r .lens) × Few 32 (read spots fittings f)

@@ -1,0 +1,60 @@
+// The round layers of a fitting up to its horizon, in flat tables.
+ghost use Prim.Native.Nat.{_+_, _*_, _≤_, _<_};
+ghost use lib.ListN.{length};
+ghost use Rattle.planning.specs.Back.{Sized};
+ghost use Rattle.layers.specs.Meaning.{fittingIn};
+ghost use Rattle.planner.specs.Tabulated.{Laid, Put};
+use jobfile::ReadFitting;
+use layers::Layer;
+
+// The vertices of each round layer, and 64 mutex words for each.
+pub struct RoundLayers {
+    pub members: [u64; 16],
+    pub words: [u64; 1024],
+}
+
+// Puts the words of round layer j + 1 in their place.
+fn put(words: &mut [u64], j: usize, row: &[u64; 64])
+    requires { ⌜ (j < 16) × (64 * j + 64 ≤ length (now words)) ⌝ }
+    ensures { λ r. ⌜ Put j (now (row .entry)) (now (words .entry)) (now (words .exit)) ⌝ }
+{
+    // As a slice: its length is then known.
+    let from: &[u64] = row;
+    let mut i: usize = 0;
+    while i < 64 {
+        words[64 * j + i] = from[i];
+        i += 1;
+    }
+}
+
+// The round layers 1 to the horizon.
+pub fn round_layers(job: ReadFitting) -> RoundLayers
+    requires { ⌜ Sized 32 (fittingIn job) × (job .horizon ≤ 16) ⌝ }
+    ensures { λ r. ⌜ Laid (fittingIn job) (job .horizon) (r .members) (r .words) ⌝ }
+{
+    let a = job.needs;
+    let b = job.gives;
+    let c = job.takes;
+    let needs = layers::with_keepers(&a);
+    let gives = layers::with_keepers(&b);
+    let takes = layers::without_keepers(&c);
+    let mut members: [u64; 16] = [0; 16];
+    let mut words: [u64; 1024] = [0; 1024];
+    let mut facts = Layer {
+        members: job.start,
+        words: [0; 64],
+    };
+    let mut j: usize = 0;
+    while j < job.horizon {
+        let round = layers::round_over(&needs, &gives, &takes, job.steps, facts);
+        let row = round.words;
+        members[j] = round.members;
+        put(&mut words, j, &row);
+        facts = layers::facts_over(&gives, round);
+        j += 1;
+    }
+    RoundLayers {
+        members: members,
+        words: words,
+    }
+}

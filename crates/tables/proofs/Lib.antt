@@ -1,2 +1,0 @@
--- Theorems on the tables of a network.
-pub mod TableLaws

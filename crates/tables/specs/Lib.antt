@@ -1,2 +1,0 @@
--- The tables of a network.
-pub mod Tables
