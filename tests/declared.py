@@ -65,10 +65,10 @@ def in_code(text):
     return kinds, functions
 
 
-def names(root):
-    """What the crates below a root declare."""
+def names(root, only="*"):
+    """What the crates below a root declare, or one of them."""
     found = Declared()
-    for path in sorted((root / "crates").rglob("*")):
+    for path in sorted(each for crate in (root / "crates").glob(only) for each in crate.rglob("*")):
         crate = path.relative_to(root / "crates").parts[0]
         if path.suffix == ".edit":
             found.edits.add(path.stem)
@@ -157,3 +157,60 @@ def promised(root):
     demand(taken == stated, f"{PROMISES} and {DEMANDS} differ in {sorted(taken ^ stated)}")
     demand("Promises" in re.findall(r"^pub mod (\S+)", source.antt((root / LIB).read_text()), re.M), f"{LIB} does not declare Promises")
     return len(stated)
+
+
+# ---- docs/ARCHITECTURE.md
+
+
+def needs(text):
+    """The needs of each crate by crates.txt, without the kit's own libraries."""
+    lines = [line.split("#")[0].strip() for line in text.splitlines()]
+    listed = {name.strip(): words.split() for name, _, words in (line.partition(":") for line in lines if line)}
+    return {name: [word for word in words if word in listed] for name, words in listed.items()}
+
+
+def arrows(text):
+    """The arrows of the pictures of a page: pairs of a crate and one that is built on it. The pictures are flowcharts of Mermaid."""
+    found = []
+    for picture in re.findall(r"^```mermaid\n(.*?)^```$", text, re.M | re.S):
+        for line in picture.splitlines():
+            chain = [word.strip() for word in line.split("-->")]
+            found += zip(chain, chain[1:])
+    return found
+
+
+def drawn(root):
+    """How many arrows the pictures of docs/ARCHITECTURE.md have: each need of crates.txt that does not follow from others, once, and nothing else."""
+    direct = needs((root / "crates.txt").read_text())
+
+    def below(name):
+        return {each for need in direct[name] for each in (need, *below(need))}
+
+    wanted = {(need, name) for name in direct for need in direct[name] if not any(need in below(other) for other in direct[name])}
+    found = arrows((root / "docs" / "ARCHITECTURE.md").read_text())
+    demand(found, "docs/ARCHITECTURE.md has no picture")
+    demand(len(found) == len(set(found)), "docs/ARCHITECTURE.md draws an arrow twice")
+    differ = [" --> ".join(pair) for pair in sorted(wanted ^ set(found))]
+    demand(not differ, "the pictures of docs/ARCHITECTURE.md and crates.txt differ in " + ", ".join(differ))
+    return len(found)
+
+
+def described(root):
+    """How many names docs/ARCHITECTURE.md gives in the tables of the crates: each is declared in that crate, in the way of its
+    row, or is a crate or a file."""
+    text, found = (root / "docs" / "ARCHITECTURE.md").read_text(), []
+    elsewhere = lambda name: name in needs((root / "crates.txt").read_text()) or "/" in name or name.endswith((".rt", ".antt"))
+    for crate, table in re.findall(r"^### `(\w+)`\n\n((?:\|.*\n)+)", text, re.M):
+        there = names(root, crate)
+        by_row = {
+            "main definitions": lambda name: name in there.definitions,
+            "main theorems": lambda name: name in there.theorems,
+            "main functions": lambda name: there.function(name) or name in there.definitions,
+        }
+        for line in table.splitlines():
+            row, _, cell = line.strip("| ").partition(" | ")
+            found += [(by_row[row](name) or elsewhere(name), f"{name} ({row} of {crate})") for name in quoted(cell) if row in by_row]
+    demand(found, "docs/ARCHITECTURE.md describes no crate")
+    absent = [label for there, label in found if not there]
+    demand(not absent, "docs/ARCHITECTURE.md names what a crate does not declare: " + ", ".join(absent))
+    return len(found)

@@ -313,6 +313,34 @@ def promises(folder):
     found("no file of promises", "Promises.antt is missing", declared.promised, folder)
 
 
+# ---- docs/ARCHITECTURE.md
+
+
+def architecture(folder):
+    page, listed = folder / "docs" / "ARCHITECTURE.md", folder / "crates.txt"
+    listed.write_text((HERE / "crates.txt").read_text())
+    passes("the pictures", declared.drawn, folder)
+    passes("the tables of the crates", declared.described, folder)
+    line = next(line for line in listed.read_text().splitlines() if line.startswith("text:"))
+    for label, path, old, new, words in (
+        ("a picture without an arrow", page, "    sets --> text\n", "", "differ in sets --> text"),
+        ("an arrow that no need gives", page, "    sets --> text\n", "    sets --> text\n    filter --> text\n", "differ in filter --> text"),
+        ("an arrow that follows from others", page, "    sets --> text\n", "    sets --> text\n    sets --> jobfile\n", "differ in sets --> jobfile"),
+        ("an arrow twice", page, "    sets --> text\n", "    sets --> text\n    sets --> text\n", "an arrow twice"),
+        ("a need that is not drawn", listed, line, f"{line} filter", "differ in filter --> text, sets --> text"),
+        ("a crate that is not drawn", listed, line, f"{line}\nlonely: text", "differ in text --> lonely"),
+    ):
+        with planted(path, old, new):
+            found(label, words, declared.drawn, folder)
+    for label, old, new, words in (
+        ("a definition that the crate lacks", "`sameName`, `lowestNamed`;", "`sameName`, `lowestNamed`, `contribution`;", "contribution (main definitions of names)"),
+        ("a theorem that is none", "`list-same`, `agree`", "`list-same`, `sameName`", "sameName (main theorems of names)"),
+        ("a function of another crate", "`same_name`, `search`;", "`same_name`, `search`, `first_bad`;", "first_bad (main functions of names)"),
+    ):
+        with planted(page, old, new):
+            found(label, words, declared.described, folder)
+
+
 # ---- counts and verdicts
 
 
@@ -352,7 +380,7 @@ def verdicts():
 def main():
     for part in (logs, least_counts, verdicts):
         part()
-    for parts in ((headers,), (every_call,), (deleted_scripts,), (edit_files,), (declared_names, promises)):
+    for parts in ((headers,), (every_call,), (deleted_scripts,), (edit_files,), (declared_names, architecture, promises)):
         with tempfile.TemporaryDirectory() as folder:
             for part in parts:
                 part(pathlib.Path(folder))

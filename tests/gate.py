@@ -143,18 +143,19 @@ def promises():
 
 
 def documents():
-    """Every crate has its paragraph in docs/ARCHITECTURE.md and every check its row, and every relative link of the documents leads to a file."""
+    """docs/ARCHITECTURE.md has the graph of crates.txt as a picture, a table or a row for every crate, names that it declares, and a row for every check; and every relative link of the documents leads to a file."""
     text = (ROOT / "docs" / "ARCHITECTURE.md").read_text()
-    wanted = [*(f"\n### `{name}`\n" for name in crates()), *(f"\n| `{name}` | " for name in least.CHECKS)]
-    absent = [words.strip() for words in wanted if words not in text]
+    absent = [name for name in crates() if f"\n### `{name}`\n" not in text and f"\n| `{name}` | " not in text]
+    absent += [name for name in least.CHECKS if f"\n| `{name}` | " not in text]
     demand(not absent, f"docs/ARCHITECTURE.md lacks {', '.join(absent)}")
+    seen = len(crates()) + len(least.CHECKS) + declared.drawn(ROOT) + declared.described(ROOT)
     links = 0
     for page in [ROOT / "README.md", *sorted((ROOT / "docs").rglob("*.md"))]:
         for target in re.findall(r"\]\(([^)#\s]+)[^)]*\)", page.read_text()):
             demand("://" in target or (page.parent / target).exists(), f"{page}: no file {target}")
             links += 1
     demand(links, "the documents have no link")
-    return len(wanted) + links
+    return seen + links
 
 
 def scripts(root, programs):
