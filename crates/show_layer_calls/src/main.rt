@@ -98,7 +98,12 @@ fn fact_layers(f: &[u8], g: &[u8]) {
     fact_layer(b" of G", g, 2, 32);
     fact_layer(b" of G in 31 words", g, 2, 31);
     fact_layer(b" of G in 31 words", g, 3, 31);
-    fact_layer(b" of F without its last byte", show_samples::first(f, 42), 4, 1);
+    fact_layer(
+        b" of F without its last byte",
+        show_samples::first(f, 42),
+        4,
+        1,
+    );
 }
 
 fn round_layers(g: &[u8]) {
