@@ -95,23 +95,23 @@ extern "C" {
 /* What a call returns: 0, or a reason by its number in docs/RULES.md, "Reasons to turn a call down". */
 enum {
     KITCHEN_ANSWERED = 0,
-    KITCHEN_WRONG_KIND = 1,       /* the file is empty, or is not of the kind that the call takes */
+    KITCHEN_WRONG_KIND = 1,       /* the file is empty, or of a kind that the call does not take */
     KITCHEN_ENDS_EARLY = 2,       /* the file ends before an item is complete */
     KITCHEN_OVER_LIMIT = 3,       /* a count or the horizon exceeds its limit */
     KITCHEN_FORBIDDEN_BIT = 4,    /* a bit map has a bit that must be 0 */
     KITCHEN_EMPTY_FIELD = 5,      /* a record's field is present and zero, or a name has length 0 */
     KITCHEN_ABSENT_MEMBER = 6,    /* a set has a member that the file lacks, or a clash is not with a lower article */
     KITCHEN_LONG_NAME = 7,        /* a name is longer than 32 bytes */
-    KITCHEN_TRAILING_BYTES = 8,   /* something stands behind the last record */
+    KITCHEN_TRAILING_BYTES = 8,   /* something follows the last record */
     KITCHEN_ABSENT_LAYER = 9,     /* a layer number is out of range */
     KITCHEN_SHORT_BUFFER = 10,    /* a lent buffer is too short */
-    KITCHEN_FALSE_PARTITION = 11, /* a group byte is n or more, or two articles that do not clash share a group */
+    KITCHEN_FALSE_PARTITION = 11, /* a group byte is not below n, or articles that do not clash are in one group */
     KITCHEN_ABSENT_ARTICLE = 12,  /* the live set has an article that the file lacks */
     KITCHEN_WRONG_GOAL = 13,      /* a projection goal is empty, or has a wish that the order lacks */
     /* answers to input that is in order */
-    KITCHEN_NO_SELECTION = 14,    /* no selection at or above the floor exists */
-    KITCHEN_NO_PLAN = 15,         /* no plan within the horizon exists */
-    KITCHEN_NO_NAME = 16          /* no article or step has that name */
+    KITCHEN_NO_SELECTION = 14,    /* there is no selection whose number is the floor or greater */
+    KITCHEN_NO_PLAN = 15,         /* there is no plan whose count of rounds is the horizon or less */
+    KITCHEN_NO_NAME = 16          /* that name belongs to no article and to no step */
 };
 
 /* The limits of files and buffers. */

@@ -14,7 +14,7 @@ NO_PLAN = (
 # What is wrong, what the place is (None where it is always 0 and says nothing), and a remark.
 REASONS = {
     1: (
-        "the file is empty, or is not of the kind that the call takes",
+        "the file is empty, or of a kind that the call does not take",
         "always 0, the first byte",
         "A choice file begins with the byte 67, a capital C, and a fitting file with 70, a capital F. "
         "A text is no job file: make one from it with tools/job write.",
@@ -53,7 +53,7 @@ REASONS = {
         "Bytes are counted, not letters: ä, ö, ü and ß have 2 bytes each.",
     ),
     8: (
-        "something stands behind the last record",
+        "something follows the last record",
         "the first byte too many",
         "The count of articles or steps is too small, or something was added to the file.",
     ),
@@ -69,7 +69,8 @@ REASONS = {
         "and a round layer 64.",
     ),
     11: (
-        "a lent partition is false: a group byte is n or more, or two articles that do not clash share a group",
+        "a lent partition is false: an article has a group byte that is not below n, or is in one group with an article "
+        "that it does not clash with",
         "the lowest article that has such a byte, or that does not clash with a lower one of its group",
         "Here n is the count of articles.",
     ),
@@ -80,17 +81,21 @@ REASONS = {
     ),
     13: (
         "a projection goal is empty, or has a wish that the order lacks",
-        "the index of the first such goal, and 0 where there is only one goal",
+        "the index of the first such goal in the list, and 0 for a pass, which takes one goal",
         "A goal has at least one wish, and wishes of the order only.",
     ),
     14: (
-        "no selection at or above the floor exists",
+        "there is no selection whose number is the floor or greater",
         None,
         "The file is in order. With the floor 0, as in the program kitchen, this means: " + NO_KITCHEN,
     ),
-    15: ("no plan within the horizon exists", None, "The file is in order. " + NO_PLAN.format("the horizon")),
+    15: (
+        "there is no plan whose count of rounds is the horizon or less",
+        None,
+        "The file is in order. " + NO_PLAN.format("the horizon"),
+    ),
     16: (
-        "no article or step has that name",
+        "that name belongs to no article and to no step",
         None,
         "The file is in order. Names are compared byte by byte, so capitals and blanks count.",
     ),
