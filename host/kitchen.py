@@ -353,7 +353,7 @@ class Library:
         return members_of(self.answered("pass", file, groups, word(number_of(live)), word(number_of(goal)))[0])
 
     def choose(self, file, floor=0, goals=None, groups=None):
-        """The selection with the smallest number at or above the floor, with its set aside; or NoSelection.
+        """The smallest selection, by its number, that is not below the floor, with its set aside; or NoSelection.
 
         Without groups our own partition is lent; without goals the whole order is the only one (none if it is empty).
         """

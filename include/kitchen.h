@@ -164,7 +164,7 @@ uint32_t kitchen_round_layer(const uint8_t *file, size_t file_len, uint64_t laye
 uint32_t kitchen_plan(const uint8_t *file, size_t file_len, uint32_t *rounds, size_t rounds_len, uint64_t out[2]);
 
 /* Where the name of an article or step stands in the file. Returns 0 always.
- * out: its start, its length; 0, 0 for a refused file, an absent number or no name */
+ * out: its start, its length; 0, 0 if the file is refused, lacks that number, or has no name for it */
 uint32_t kitchen_name(const uint8_t *file, size_t file_len, uint64_t number, uint64_t out[2]);
 
 /* The lowest article or step with this name. 16 is "none has it".

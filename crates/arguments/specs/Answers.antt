@@ -57,7 +57,7 @@ said (value x) = answered x
 abbrev pub refusalSaid : {A : Type 0} → Refusal → Said A
 refusalSaid r = refusedBy (numberOf (r .reason)) (r .place)
 
--- input is accepted if no reason other than 14 to 16 turns the call down
+-- input is accepted if the call has a value or one of the answers 14 to 16
 abbrev pub accepted : {A : Type 0} → Said A → Bool
 accepted (refusedBy number place) = answers number
 accepted (answered x) = true

@@ -47,14 +47,14 @@ use Rattle.demands.proofs.DemandLaws.{exactly-then, tests-end, accepted
 
 -- ---- demand 1
 
--- "each by its number": the numbers of the rules, and no two reasons have one
+-- the numbers of the rules, and no two reasons have one
 pub demand-1-numbers : (numberOf WrongKind ≡ 1) × (numberOf EndsEarly ≡ 2) × (numberOf OverLimit ≡ 3) × (numberOf ForbiddenBit ≡ 4) × (numberOf EmptyField ≡ 5) × (numberOf AbsentMember ≡ 6) × (numberOf LongName ≡ 7) × (numberOf TrailingBytes ≡ 8) × (numberOf OutOfRange ≡ 9) × (numberOf ShortBuffer ≡ 10) × (numberOf FalsePartition ≡ 11) × (numberOf LiveOutsideFile ≡ 12) × (numberOf BadGoal ≡ 13) × (numberOf NoSelection ≡ 14) × (numberOf NoPlan ≡ 15) × (numberOf NameNotFound ≡ 16)
 demand-1-numbers = (refl, refl, refl, refl, refl, refl, refl, refl, refl, refl, refl, refl, refl, refl, refl, refl)
 
 pub demand-1-one-number : (r s : Reason) → numberOf r ≡ numberOf s → r ≡ s
 demand-1-one-number r s e = number-tells r s e
 
--- "Refused are files off the layout": those that are not the writing of a valid job of a kind that the call takes
+-- files that are turned down: those that are not the writing of a valid job of a kind that the call takes
 pub demand-1-files : (takes : ℕ → Bool) (file : List ℕ) → Bytes file
     → Exactly ((reason : Reason) × (place : ℕ) × (readJob takes file ≡ refused reason place)) ((job : Job (List ℕ)) → Valid job → takes (job .kind) ≡ true → file ≡ write job → ⊥)
 demand-1-files takes file bytes = (λ w job ok t e. absurd (no-value (sym (w .2) ∙ ap (readJob takes) e ∙ read-back takes job ok t)), λ h. go h (readJob takes file) refl)
@@ -70,8 +70,8 @@ demand-1-files takes file bytes = (λ w job ok t e. absurd (no-value (sym (w .2)
 pub demand-1-file-numbers : (takes : ℕ → Bool) (file : List ℕ) {reason : Reason} {place : ℕ} → readJob takes file ≡ refused reason place → numberOf reason ≤ 8
 demand-1-file-numbers takes file e = file-reason takes file e
 
--- "articles or layers that the file lacks, short buffers, false partitions and projection goals that are empty or outside the order, each by its
--- number and place": a call turns its input down exactly for the first of these, the file before the arguments, and the arguments by the numbers
+-- what else is turned down: a layer or an article that the file does not have, a buffer that is too short, a wrong partition, a wrong goal. A call
+-- turns its input down exactly for the first of these, the file before the arguments, and the arguments by the numbers
 pub demand-1-partition : (file buffer : List ℕ) (number place : ℕ) → Exactly (Refuses (partitionOf file buffer .answer) number place) (Wrong choices file (λ job. shortBuffer buffer (size job) ∷ []) number place)
 demand-1-partition file buffer number place =
     exactly-then (left-exactly (λ groups. groups) (λ groups. tt) buffer (onJob (readJob choices file) (λ job. partitionIn job buffer)) number place)
@@ -116,7 +116,7 @@ demand-1-compare first second number place =
     file-exactly choices first (λ a. onJob (readJob choices second) (λ b. value (alike a b))) number place (λ job. Off choices second number place) (λ a.
     exactly-then (file-tests choices second (λ b. value (alike a b)) (λ b. tests-end (value (alike a b)) refl) number place) (file-only choices second number place))
 
--- "with nothing written", 14 to 16 included
+-- a refusal leaves the buffer as it was, 14 to 16 included
 pub demand-1-partition-kept : (file buffer : List ℕ) {number place : ℕ} → partitionOf file buffer .answer ≡ refusedBy number place → partitionOf file buffer .buffer ≡ buffer
 demand-1-partition-kept file buffer e = left-kept (λ groups. groups) (λ groups. tt) buffer (onJob (readJob choices file) (λ job. partitionIn job buffer)) e
 
@@ -134,7 +134,7 @@ demand-1-plan-kept file old new {number} {place} b e = go (readJob fittings file
     go (got job end) (refusal r p) b e = b
     go (got job end) (value k) b e = let z : _≡_ {A = ℕ} 0 1 = cc in absurd (omega arith)
 
--- "only the call for a name gives an empty name in place of a number"
+-- the call for a name never refuses: it answers the empty name
 pub demand-1-name : (file : List ℕ) (number : ℕ) {reason : Reason} {place : ℕ} → readJob either file ≡ refused reason place → nameOf file number ≡ []
 demand-1-name file number e = ap (λ g. nameIn g number) e
 
@@ -143,14 +143,14 @@ demand-1-name-absent file number bytes {job} e l =
     let ok : Valid job = exact-and-valid either file bytes e .1 in
     ap (λ g. nameIn g number) e ∙ name-past (job .records) number (omega (arith, ok .size))
 
--- otherwise it gives the name of that article or step, empty where it has none, and always a part of the file's own bytes
+-- otherwise it gives the name of that article or step, empty if there is none, and always a part of the file's own bytes
 pub demand-1-name-result : (file : List ℕ) (number : ℕ) {job : Job (List ℕ)} {end : ℕ} → readJob either file ≡ got job end → nameOf file number ≡ getD (namesOf (job .records)) number []
 demand-1-name-result file number e = ap (λ g. nameIn g number) e
 
 pub demand-1-name-part : (file : List ℕ) (number : ℕ) → (start len : ℕ) × (nameOf file number ≡ take len (drop start file))
 demand-1-name-part file number = let spot = spotIn (read spots either file) number in (spot .start, spot .len, name-at-spot file either number)
 
--- "All else is accepted": exactly the input that a call does not turn down; 14 to 16 are answers to accepted input
+-- accepted is exactly the input that a call does not turn down; 14 to 16 are answers to accepted input
 pub demand-1-partition-else : (file buffer : List ℕ) → Exactly (accepted (partitionOf file buffer .answer) ≡ true) ((number place : ℕ) → Wrong choices file (λ job. shortBuffer buffer (size job) ∷ []) number place → ⊥)
 demand-1-partition-else file buffer = accepted-exactly (partitionOf file buffer .answer) (demand-1-partition file buffer)
 
@@ -180,7 +180,7 @@ pub demand-1-compare-else : (first second : List ℕ)
     → Exactly (accepted (said (compareOf first second)) ≡ true) ((number place : ℕ) → Off choices first number place ⊎ ((job : Job (List ℕ)) × (end : ℕ) × (readJob choices first ≡ got job end) × Off choices second number place) → ⊥)
 demand-1-compare-else first second = accepted-exactly (said (compareOf first second)) (demand-1-compare first second)
 
--- "every call ends with the result that is defined": finding and comparing; the other calls are those of demands 2 and 3
+-- what finding and comparing answer; the other calls are those of demands 2 and 3
 pub demand-1-find-result : (file name : List ℕ) → accepted (said (findOf file name)) ≡ true → (job : Job (List ℕ)) × (end : ℕ) × (readJob either file ≡ got job end) × (said (findOf file name) ≡ said (findIn job name))
 demand-1-find-result file name t = let (job, end, e, i, s) = file-taken either file (λ job. findIn job name) t in (job, end, e, ap said i)
 
@@ -191,7 +191,7 @@ demand-1-find-lowest file name {job} e i =
     let some = found-some (lowestNamed name (size job) (λ i. getD (namesOf (job .records)) i [])) NameNotFound i in
     exactly-then (λ r. some .0 (sym is ∙ r), λ s. is ∙ some .1 s) (lowest-exactly name job i)
 
--- and 16 exactly where nobody has it
+-- and 16 exactly if nobody has it
 pub demand-1-find-none : (file name : List ℕ) {job : Job (List ℕ)} {end : ℕ} → readJob either file ≡ got job end → Exactly (said (findOf file name) ≡ refusedBy 16 0) ((i : ℕ) → Has job name i → ⊥)
 demand-1-find-none file name {job} e =
     let is : said (findOf file name) ≡ said (findIn job name) = ap (λ g. said (onJob g (λ job. findIn job name))) e in
@@ -210,7 +210,7 @@ demand-1-compare-result first second t =
 
 -- ---- demand 2: on accepted input, each result is its definition on the job that the file states
 
--- "Reading": an accepted file is the writing of its job, which is valid
+-- reading: an accepted file is the writing of its job, which is valid
 pub demand-2-reading : (takes : ℕ → Bool) (file : List ℕ) → Bytes file → {job : Job (List ℕ)} {end : ℕ} → readJob takes file ≡ got job end → (file ≡ write job) × Valid job
 demand-2-reading takes file bytes e = exact-and-valid takes file bytes e
 
@@ -218,7 +218,7 @@ demand-2-reading takes file bytes e = exact-and-valid takes file bytes e
 pub demand-2-read-back : (takes : ℕ → Bool) (job : Job (List ℕ)) → Valid job → takes (job .kind) ≡ true → readJob takes (write job) ≡ got job (length (write job))
 demand-2-read-back takes job ok t = read-back takes job ok t
 
--- "partition", in front of the buffer, with the later bytes as they were; it is one
+-- our partition, at the front of the buffer, with the later bytes as they were; it is one
 pub demand-2-partition : (file buffer : List ℕ) → accepted (partitionOf file buffer .answer) ≡ true
     → (job : Job (List ℕ)) × (end : ℕ) × (readJob choices file ≡ got job end) × (partitionOf file buffer .answer ≡ answered tt) × (partitionOf file buffer .buffer ≡ groupsTo (networkOf job) (size job) ++ drop (size job) buffer) × Partition (networkOf job) (groupOf (networkOf job))
 demand-2-partition file buffer t =
@@ -227,21 +227,21 @@ demand-2-partition file buffer t =
     let (p, q) = left-value (λ groups. groups) (λ groups. tt) buffer (i ∙ room-checks buffer (size job) .passes _ s) (groups-length (networkOf job) (size job)) in
     (job, end, e, p, q, groups-right (networkOf job))
 
--- "filter"
+-- a pass of the filter
 pub demand-2-pass : (file groups : List ℕ) (live goal : ℕ) → accepted (said (passOf file groups live goal)) ≡ true
     → (job : Job (List ℕ)) × (end : ℕ) × (readJob choices file ≡ got job end) × (said (passOf file groups live goal) ≡ answered (pass (networkOf job) (λ u. getD groups u 0) live goal))
 demand-2-pass file groups live goal t =
     let (job, end, e, i, s) = file-taken choices file (λ job. passIn job groups live goal) t in
     (job, end, e, ap said (i ∙ both-pass (groups-checks (networkOf job) groups) (pass-checks (size job) (order job) live goal) _ s))
 
--- "smallest selection"
+-- the choice
 pub demand-2-choose : (file groups goals : List ℕ) (floor : ℕ) → accepted (said (chooseOf file groups goals floor)) ≡ true
     → (job : Job (List ℕ)) × (end : ℕ) × (readJob choices file ≡ got job end) × (said (chooseOf file groups goals floor) ≡ said (chosenOr (selection (networkOf job) (order job) floor) (setAside (networkOf job) (λ u. getD groups u 0) goals)))
 demand-2-choose file groups goals floor t =
     let (job, end, e, i, s) = file-taken choices file (λ job. chooseIn job groups goals floor) t in
     (job, end, e, ap said (i ∙ choice-is groups goals floor job s))
 
--- "planning-graph layers"
+-- the layers
 pub demand-2-fact-layer : (file buffer : List ℕ) (k : ℕ) → accepted (factLayerOf file k buffer .answer) ≡ true
     → (job : Job (List ℕ)) × (end : ℕ) × (readJob fittings file ≡ got job end) × (factLayerOf file k buffer .answer ≡ answered (factLayer 32 (fittingOf job) k .members)) × (factLayerOf file k buffer .buffer ≡ factLayer 32 (fittingOf job) k .words ++ drop 32 buffer)
 demand-2-fact-layer file buffer k t =
@@ -258,20 +258,20 @@ demand-2-round-layer file buffer k t =
     let (p, q) = left-value (λ layer. layer .words) (λ layer. layer .members) buffer (i ∙ layer-checks k 1 (horizon job) buffer 64 .passes _ s) (rounds-length 32 (fittingOf job) k) in
     (job, end, e, p, q)
 
--- "no two different files that are accepted state one job"
+-- accepted files of one job are one file
 pub demand-2-one-writing : (takes takes′ : ℕ → Bool) (f g : List ℕ) → Bytes f → Bytes g → {job : Job (List ℕ)} {m n : ℕ} → readJob takes f ≡ got job m → readJob takes′ g ≡ got job n → f ≡ g
 demand-2-one-writing takes takes′ f g bf bg p q = one-writing takes takes′ f g bf bg p q
 
 -- ---- demand 3
 
--- "Whatever choice file, partition, projection goals and floor the choice accepts": the clauses of `ChoiceKept`
+-- the choice, on accepted input: the clauses of `ChoiceKept`
 pub demand-3-choice : (file groups goals : List ℕ) (floor : ℕ) → accepted (said (chooseOf file groups goals floor)) ≡ true
     → (job : Job (List ℕ)) × (end : ℕ) × (readJob choices file ≡ got job end) × ChoiceKept job (λ u. getD groups u 0) goals floor (said (chooseOf file groups goals floor))
 demand-3-choice file groups goals floor t =
     let (job, end, e, i, s) = file-taken choices file (λ job. chooseIn job groups goals floor) t in
     (job, end, e, subst (λ a. ChoiceKept job (λ u. getD groups u 0) goals floor (said a)) (sym i) (choice-kept groups goals floor job s))
 
--- "no selection" comes exactly when there is none
+-- it says that there is none exactly if there is none
 pub demand-3-no-selection : (file groups goals : List ℕ) (floor : ℕ) → accepted (said (chooseOf file groups goals floor)) ≡ true → {job : Job (List ℕ)} {end : ℕ} → readJob choices file ≡ got job end
     → Exactly (Says (said (chooseOf file groups goals floor)) 14) ((x : ℕ) → Selection (networkOf job) (order job) x → floor ≤ x → ⊥)
 demand-3-no-selection file groups goals floor t {job} e =
@@ -280,8 +280,7 @@ demand-3-no-selection file groups goals floor t {job} e =
     let (to, back) = chosen-none (selection (networkOf job) (order job) floor) (setAside (networkOf job) (λ u. getD groups u 0) goals) in
     (λ (place, r). none-exactly (networkOf job) (order job) floor (to (place, sym (ap said is) ∙ r)), λ h. let (place, r) = back (exactly-none (networkOf job) (order job) floor h) in (place, ap said is ∙ r))
 
--- "Whatever fitting file and buffer the planner accepts": the clauses of `PlanKept`. `Buffer` is what the contract says of the words, old before the
--- call and new after it
+-- the planner, on accepted input: the clauses of `PlanKept`. `Buffer` is what the contract says of the words, old before the call and new after it
 pub demand-3-plan : (file old new : List ℕ) → accepted (said (planOf file old)) ≡ true → Buffer (readJob fittings file) old new (planOf file old)
     → (job : Job (List ℕ)) × (end : ℕ) × (readJob fittings file ≡ got job end) × PlanKept job old new (said (planOf file old))
 demand-3-plan file old new t b =
@@ -289,7 +288,7 @@ demand-3-plan file old new t b =
     let w : WordsIn (fittingOf job) old new (planIn job old) = subst (λ g. Buffer g old new (onJob g (λ job. planIn job old))) e b in
     (job, end, e, subst (λ a. PlanKept job old new (said a)) (sym i) (plan-kept old new job s w))
 
--- "no plan" comes exactly when there is none within the horizon
+-- it says that there is none exactly if there is none within the horizon
 pub demand-3-no-plan : (file buffer : List ℕ) → accepted (said (planOf file buffer)) ≡ true → {job : Job (List ℕ)} {end : ℕ} → readJob fittings file ≡ got job end
     → Exactly (Says (said (planOf file buffer)) 15) ((rs : List ℕ) → Plan (fittingOf job) rs → length rs ≤ horizon job → ⊥)
 demand-3-no-plan file buffer t {job} e =

@@ -96,18 +96,17 @@ Has job name i = (name ≡ [] → ⊥) × (i < size job) × (getD (namesOf (job 
 abbrev pub Alike : Job (List ℕ) → Job (List ℕ) → Type 0
 Alike a b = (size a ≡ size b) × (wishCount a ≡ wishCount b) × (order a ≡ order b) × (wishes a ≡ wishes b) × (clashes a ≡ clashes b)
 
--- ---- demand 3: what the choice and the planner answer where their input is accepted
+-- ---- demand 3: what the choice and the planner answer if their input is accepted
 
--- On a refusal: it is 14, "no selection", and no clash-free set covering the order has a number at or above the floor. On a value: the selection is such
--- a set, and every other one has a greater number; the set aside is the one that is defined; and none of its articles lies in any clash-free set
--- covering the order, whatever that set's number.
+-- On a refusal: it is 14, and every selection is below the floor. On a value: it is the smallest selection that is not below the floor; the set aside is
+-- the one that is defined; and it shares no article with any selection, above the floor or below it.
 abbrev pub ChoiceKept : Job (List ℕ) → (ℕ → ℕ) → List ℕ → ℕ → Said Chosen → Type 0
 ChoiceKept job group goals floor (refusedBy number place) = (number ≡ 14) × (place ≡ 0) × ((x : ℕ) → Selection (networkOf job) (order job) x → floor ≤ x → ⊥)
 ChoiceKept job group goals floor (answered c) =
     LeastFrom (Selection (networkOf job) (order job)) floor (c .selection) × (c .aside ≡ setAside (networkOf job) group goals) × ((x u : ℕ) → Selection (networkOf job) (order job) x → u ∈ c .aside → u ∈ x → ⊥)
 
--- On a refusal: it is 15, "no plan", no plan within the horizon exists, and nothing was written. On a value: that many words in front are, in order, all
--- the rounds of a plan; the plan is within the horizon; no plan has fewer rounds; and the later words keep.
+-- On a refusal: it is 15, every plan is longer than the horizon, and nothing was written. On a value: as many words from the first on are the rounds of
+-- a plan, one after the other; it is within the horizon, and no plan is shorter; and the later words are as they were.
 abbrev pub PlanKept : Job (List ℕ) → List ℕ → List ℕ → Said ℕ → Type 0
 PlanKept job old new (refusedBy number place) = (number ≡ 15) × (place ≡ 0) × ((rs : List ℕ) → Plan (fittingOf job) rs → length rs ≤ horizon job → ⊥) × (new ≡ old)
 PlanKept job old new (answered k) =

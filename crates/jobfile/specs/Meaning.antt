@@ -135,12 +135,12 @@ NamesWithin end starts lens = (i : ℕ) → getD starts i 0 + getD lens i 0 ≤ 
 abbrev pub spotOf : List ℕ → List ℕ → ℕ → Spot
 spotOf starts lens i = record { start = getD starts i 0; len = getD lens i 0 }
 
--- where the name of record i stands: nowhere for a refused file, an absent number or no name
+-- the spot of the name of record i: 0 and 0 if the file is refused, if it has no record i, or if that has no name
 abbrev pub spotIn : Got (Job Spot) → ℕ → Spot
 spotIn (refused reason place) i = record { start = 0; len = 0 }
 spotIn (got job end) i = getD (namesOf (job .records)) i (record { start = 0; len = 0 })
 
--- the name of record i: empty for a refused file, an absent number or no name
+-- the name of record i, empty in the same cases
 abbrev pub nameIn : Got (Job (List ℕ)) → ℕ → List ℕ
 nameIn (refused reason place) i = []
 nameIn (got job end) i = getD (namesOf (job .records)) i []

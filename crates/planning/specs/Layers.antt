@@ -23,7 +23,7 @@ mutexWord n m test p = given (member m p) (setOf n (mutexWith m test p))
 unfoldable pub mutexes : ℕ → ℕ → (ℕ → ℕ → Bool) → List ℕ
 mutexes n m test = listTo n (mutexWord n m test)
 
--- vertex t is the keeper of fact t, a step that needs and gives t and takes nothing; vertex w + a is step a
+-- vertex w + a is step a; a vertex t below w keeps fact t: it is a step with t as its one need and its one gift
 abbrev pub vertices : ℕ → Fitting → Steps
 vertices w F = record {
   needs = λ x. cond (ltb x w) (2 ^ x) (F .steps .needs (x - w));
@@ -41,7 +41,7 @@ opposed w L s = gathered w s (λ i. getD (L .words) i 0)
 unfoldable pub stands : ℕ → Steps → Layer → ℕ → Bool
 stands w S L x = part (S .needs x) (L .members) && not (meets (opposed w L (S .needs x)) (S .needs x))
 
--- whether two vertices are mutex: they disturb each other, or a need of one is mutex with a need of the other (000, definition 8)
+-- whether two vertices are mutex: they disturb, or there are two mutex facts, one needed by each (000, definition 8)
 unfoldable pub rivals : ℕ → Steps → Layer → ℕ → ℕ → Bool
 rivals w S L x y = disturb S x y || meets (opposed w L (S .needs x)) (S .needs y)
 
@@ -58,7 +58,7 @@ roundOver w S top L = record { members = standing w S top L; words = mutexes (w 
 unfoldable pub givers : ℕ → Steps → Layer → ℕ → ℕ
 givers w S R p = setOf (w + w) (λ x. member (R .members) x && member (S .gives x) p)
 
--- whether two facts are mutex: every giver of one is mutex with every giver of the other, and no vertex gives both (000, definition 9)
+-- whether two facts are mutex: no vertex gives both, and any two that give one each are mutex (000, definition 9)
 unfoldable pub excluded : ℕ → Steps → Layer → ℕ → ℕ → Bool
 excluded w S R p q =
     everyTo (w + w) (λ x. not (member (givers w S R p) x) || part (givers w S R q) (getD (R .words) x 0)) && not (meets (givers w S R p) (givers w S R q))

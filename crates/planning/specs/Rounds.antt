@@ -38,11 +38,11 @@ fittingOf job =
 
 -- ---- rounds
 
--- whether two different steps disturb each other: one takes what the other needs or gives (000, definition 7)
+-- whether two different steps disturb each other: some fact is taken by one, and needed or given by the other (000, definition 7)
 unfoldable pub disturb : Steps → ℕ → ℕ → Bool
 disturb S a b = meets (S .takes a) (bitOr (S .needs b) (S .gives b)) || meets (S .takes b) (bitOr (S .needs a) (S .gives a))
 
--- the facts after a round: those before it without all that is taken, with all that is given
+-- the facts after a round: what its steps take is gone, then what they give is there
 unfoldable pub after : Fitting → ℕ → ℕ → ℕ
 after F s r = bitOr (without s (gathered (F .count) r (F .steps .takes))) (gathered (F .count) r (F .steps .gives))
 
