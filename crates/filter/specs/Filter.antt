@@ -31,7 +31,7 @@ firstBad order goals = firstFrom (λ i. badGoal order (getD goals i 0)) (length 
 unfoldable pub share : Network → (ℕ → ℕ) → ℕ → ℕ → ℕ → ℕ → ℕ
 share N group live p j u = given (member live u && eqb (group u) j) (count (bitAnd (N .wishes u) p))
 
--- the contribution of group j: the best that a live member does for p, by the count of its wishes; 0 without a live member (001, definition 3)
+-- the contribution of group j: the greatest count of wishes of p on one of its live members; 0 without a live member (001, definition 3)
 unfoldable pub contribution : Network → (ℕ → ℕ) → ℕ → ℕ → ℕ → ℕ
 contribution N group live p j = maxTo (N .articles) (share N group live p j)
 
