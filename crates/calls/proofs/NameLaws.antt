@@ -23,7 +23,7 @@ use Rattle.jobfile.specs.Meaning.{choiceRead, fittingRead, spotOf, spotIn, Few,
 use Rattle.jobfile.specs.Read.{read, readJob, choices, fittings, either}
 use Rattle.jobfile.proofs.NamingLaws.{mapGot, bytesAt, recordBy, jobBy, names-same, read-same}
 use Rattle.jobfile.proofs.ReadLaws.{either-choice, either-fitting, choice-spot, fitting-spot}
-use Rattle.expansion.proofs.ReadLaws.{column-by, column-length}
+use Rattle.layers.proofs.ReadLaws.{column-by, column-length}
 use Rattle.names.specs.Names.{sameList, lowestNamed}
 use Rattle.names.specs.Likeness.{alike}
 use Rattle.names.proofs.SameLaws.{padded-same, search-cong}

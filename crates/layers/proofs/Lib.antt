@@ -3,3 +3,4 @@ pub mod SetCode
 pub mod RoundCode
 pub mod FactCode
 pub mod LayerCode
+pub mod ReadLaws
