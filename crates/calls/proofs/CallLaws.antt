@@ -21,7 +21,7 @@ use Rattle.jobfile.specs.Read.{read, readJob, choices, fittings}
 use Rattle.jobfile.proofs.NamingLaws.{mapGot, jobBy, read-same}
 use Rattle.network.specs.Network.{networkOf}
 use Rattle.planning.specs.Rounds.{fittingOf}
-use Rattle.layers.specs.Meaning.{fittingIn}
+use Rattle.planning.specs.Meaning.{fittingIn}
 use Rattle.layers.proofs.ReadLaws.{fitting-read}
 use Rattle.arguments.specs.Answers.{Answer, refusal, onJob}
 use Rattle.arguments.specs.Meaning.{networkIn}

@@ -25,7 +25,7 @@ use Rattle.jobfile.proofs.ReadLaws.{padded-at, nothing-there}
 use Rattle.jobfile.proofs.NamingLaws.{mapGot, recordBy, jobBy, read-same}
 use Rattle.planning.specs.Rounds.{fittingOf}
 use Rattle.planning.specs.Back.{Sized}
-use Rattle.layers.specs.Meaning.{fittingIn}
+use Rattle.planning.specs.Meaning.{fittingIn}
 
 -- ---- items
 

@@ -10,7 +10,8 @@ ghost use Rattle.sets.specs.Ranges.{listTo};
 ghost use Rattle.planning.specs.Rounds.{listedSteps};
 ghost use Rattle.planning.specs.Layers.{roundOver, factsOver, factLayer, roundLayer};
 ghost use Rattle.planning.specs.Back.{Sized};
-ghost use Rattle.layers.specs.Meaning.{layer, roomy, vertexWords, fittingIn};
+ghost use Rattle.planning.specs.Meaning.{fittingIn};
+ghost use Rattle.layers.specs.Meaning.{layer, roomy, vertexWords};
 
 mod facts;
 mod rounds;

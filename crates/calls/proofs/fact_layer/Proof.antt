@@ -4,7 +4,7 @@ use mathlib.Core.Path.{ap}
 use native.Mathlib.Omega.{arith}
 use denote.Ref.{now}
 use lib.ListN.{length}
-use Rattle.layers.specs.Meaning.{fittingIn}
+use Rattle.planning.specs.Meaning.{fittingIn}
 use Rattle.layers.proofs.ReadLaws.{sized-read}
 use Rattle.arguments.proofs.TestLaws.{layer-passed}
 use Rattle.calls.proofs.CallLaws.{fitting-job}

@@ -1,7 +1,7 @@
 -- `layers::round_layer` meets its contract.
 use borrow.Author.Needs.{needs}
 use Prim.Native.Nat.{_-_}
-use Rattle.layers.specs.Meaning.{fittingIn}
+use Rattle.planning.specs.Meaning.{fittingIn}
 use Rattle.layers.proofs.LayerCode.{vertices-drawn, needs-fit, layer-round}
 use Rattle.layers.proofs.round_layer.Statement.{statement}
 use Rattle.layers.proofs.round_layer.Tie as tie
