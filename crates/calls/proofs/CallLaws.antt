@@ -22,7 +22,7 @@ use Rattle.jobfile.proofs.NamingLaws.{mapGot, jobBy, read-same}
 use Rattle.network.specs.Network.{networkOf}
 use Rattle.planning.specs.Rounds.{fittingOf}
 use Rattle.planning.specs.Meaning.{fittingIn}
-use Rattle.layers.proofs.ReadLaws.{fitting-read}
+use Rattle.planning.proofs.ReadLaws.{fitting-read}
 use Rattle.arguments.specs.Answers.{Answer, refusal, onJob}
 use Rattle.arguments.specs.Meaning.{networkIn}
 use Rattle.arguments.proofs.TestLaws.{network-same}

@@ -3,4 +3,3 @@ pub mod SetCode
 pub mod RoundCode
 pub mod FactCode
 pub mod LayerCode
-pub mod ReadLaws

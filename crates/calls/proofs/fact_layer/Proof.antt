@@ -5,7 +5,7 @@ use native.Mathlib.Omega.{arith}
 use denote.Ref.{now}
 use lib.ListN.{length}
 use Rattle.planning.specs.Meaning.{fittingIn}
-use Rattle.layers.proofs.ReadLaws.{sized-read}
+use Rattle.planning.proofs.ReadLaws.{sized-read}
 use Rattle.arguments.proofs.TestLaws.{layer-passed}
 use Rattle.calls.proofs.CallLaws.{fitting-job}
 use Rattle.calls.proofs.FittingLaws.{facts-fit, words-fit, facts-down, facts-stopped, facts-made}
