@@ -29,7 +29,7 @@ abbrev pub uses : Steps → ℕ → ℕ
 uses S x = bitOr (S .needs x) (S .gives x)
 
 -- for each fact the vertices that need or give it, those that take it, and those that need it
-pub record Turned (needs gives takes users takers needers : List ℕ) : Type 0 where
-  pub used : users ≡ transposed 64 (listTo 64 (uses (listedSteps needs gives [])))
-  pub taken : takers ≡ transposed 64 takes
-  pub needed : needers ≡ transposed 64 needs
+pub record Turned (needs gives takes us ts ns : List ℕ) : Type 0 where
+  pub users : us ≡ transposed 64 (listTo 64 (uses (listedSteps needs gives [])))
+  pub takers : ts ≡ transposed 64 takes
+  pub needers : ns ≡ transposed 64 needs

@@ -1,6 +1,5 @@
 // The layers of the planning graph on words of 64 bits: one from the one below it, and those of a fitting
-// file as read by their number. Facts are bits 0 to 31. Of the vertices, bit t is the keeper of fact t, and
-// bit 32 + a is step a.
+// file as read by their number.
 ghost use mathlib.Core.Path.{_≡_};
 ghost use mathlib.Core.Bool.{true, false};
 ghost use mathlib.Core.List.{[]};
@@ -20,6 +19,9 @@ mod vertices;
 use jobfile::ReadFitting;
 use sets::table;
 use sets::word;
+
+// Facts are bits 0 to 31. Of the vertices, bit t is the keeper of fact t, and bit 32 + a is step a.
+const FACTS: usize = 32;
 
 // The members of a layer, and for each of them those that it is mutex with.
 pub struct Layer {
