@@ -21,8 +21,8 @@ use Rattle.jobfile.specs.Read.{read, readJob, choices, fittings}
 use Rattle.jobfile.proofs.NamingLaws.{mapGot, jobBy, read-same}
 use Rattle.network.specs.Network.{networkOf}
 use Rattle.planning.specs.Rounds.{fittingOf}
-use Rattle.layers.specs.Meaning.{fittingIn}
-use Rattle.expansion.proofs.ReadLaws.{fitting-read}
+use Rattle.planning.specs.Meaning.{fittingIn}
+use Rattle.planning.proofs.ReadLaws.{fitting-read}
 use Rattle.arguments.specs.Answers.{Answer, refusal, onJob}
 use Rattle.arguments.specs.Meaning.{networkIn}
 use Rattle.arguments.proofs.TestLaws.{network-same}

@@ -26,7 +26,8 @@ use Rattle.planning.specs.Layers.{Layer, vertices, factsOver, factLayer, roundO
 use Rattle.planning.specs.Back.{Sized}
 use Rattle.planning.proofs.WordLaws.{words-below}
 use Rattle.planning.proofs.LayerLaws.{facts-below}
-use Rattle.layers.specs.Meaning.{layer, roomy, fittingIn}
+use Rattle.planning.specs.Meaning.{fittingIn}
+use Rattle.layers.specs.Meaning.{layer, roomy}
 use Rattle.layers.proofs.LayerCode.{facts-length, rounds-length}
 use Rattle.planner.specs.declared.Planned.{Planned}
 use Rattle.planner.specs.declared.Planned.the-variants as Planned

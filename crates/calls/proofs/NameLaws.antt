@@ -21,9 +21,9 @@ use Rattle.jobfile.specs.declared.ReadFitting.{ReadFitting}
 use Rattle.jobfile.specs.Job.{Job, column, size, order, wishes, clashes}
 use Rattle.jobfile.specs.Meaning.{choiceRead, fittingRead, spotOf, spotIn, Few, ChoiceBounds, FittingBounds}
 use Rattle.jobfile.specs.Read.{read, readJob, choices, fittings, either}
-use Rattle.jobfile.proofs.NamingLaws.{mapGot, bytesAt, recordBy, jobBy, names-same, read-same}
+use Rattle.jobfile.proofs.NamingLaws.{mapGot, bytesAt, recordBy, jobBy, column-by, names-same, read-same}
 use Rattle.jobfile.proofs.ReadLaws.{either-choice, either-fitting, choice-spot, fitting-spot}
-use Rattle.expansion.proofs.ReadLaws.{column-by, column-length}
+use Rattle.jobfile.proofs.StatedLaws.{column-length}
 use Rattle.names.specs.Names.{sameList, lowestNamed}
 use Rattle.names.specs.Likeness.{alike}
 use Rattle.names.proofs.SameLaws.{padded-same, search-cong}

@@ -168,7 +168,7 @@ pub fn fact_layer(file: &[u8], k: usize, words: &mut [u32]) -> FactsAnswer
     if let Verdict::Refused(refusal) = tested {
         return FactsAnswer::Refused(refusal);
     }
-    let layer = expansion::fact_layer(read, k);
+    let layer = layers::fact_layer(read, k);
     let mutex = layer.words;
     written::facts(words, &mutex);
     FactsAnswer::Facts(layer.members as u32)
@@ -194,7 +194,7 @@ pub fn round_layer(file: &[u8], k: usize, words: &mut [u64]) -> VerticesAnswer
     if let Verdict::Refused(refusal) = tested {
         return VerticesAnswer::Refused(refusal);
     }
-    let layer = expansion::round_layer(read, k);
+    let layer = layers::round_layer(read, k);
     let mutex = layer.words;
     written::vertices(words, &mutex);
     VerticesAnswer::Vertices(layer.members)

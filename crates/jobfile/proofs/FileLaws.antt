@@ -2,7 +2,7 @@
 -- are such. Assumes nothing.
 use mathlib.Core.Path.{_≡_, refl, ap, sym}
 use mathlib.Core.Bool.{Bool, true, false, cond}
-use mathlib.Core.List.{List, [], _∷_, map, append-nil}
+use mathlib.Core.List.{List, [], _∷_, append-nil}
 use mathlib.Core.Option.{some}
 use Prim.Native.Nat.{ℕ, zero, suc, _^_, _≤_, _<_}
 use native.Mathlib.Nat.{le-trans, le-refl}
@@ -24,7 +24,7 @@ use Rattle.jobfile.proofs.RecordLaws.{Roomy, record-lawful}
 
 -- the limit of count k
 abbrev pub limitAt : Layout → ℕ → ℕ
-limitAt layout k = getD (map (λ c. c .limit) (layout .counts)) k 0
+limitAt layout k = getD (layout .counts) k (record { bytes = 0; limit = 0 }) .limit
 
 -- every item has room for its greatest value
 pub record Sound (layout : Layout) : Type 0 where
@@ -75,13 +75,17 @@ kinds-sound = (choice-sound, (fitting-sound, tt))
 
 -- ---- bounds
 
+-- what is related is so place by place, and behind both ends where the defaults are
+pub each-at : {A B : Type 0} (P : A → B → Type 0) (a : A) (b : B) → P a b → (xs : List A) (ys : List B) → Each P xs ys → (k : ℕ) → P (getD xs k a) (getD ys k b)
+each-at P a b past [] [] o k = past
+each-at P a b past [] (y ∷ ys) o k = absurd o
+each-at P a b past (x ∷ xs) [] o k = absurd o
+each-at P a b past (x ∷ xs) (y ∷ ys) o zero = o .0
+each-at P a b past (x ∷ xs) (y ∷ ys) o (suc k) = each-at P a b past xs ys (o .1) k
+
 -- a count is at most its limit
-pub count-bound : (cs : List Count) (vs : List ℕ) → Each (λ c v. v ≤ c .limit) cs vs → (k : ℕ) → getD vs k 0 ≤ getD (map (λ c. c .limit) cs) k 0
-count-bound [] [] o k = le-refl 0
-count-bound [] (v ∷ vs) o k = absurd o
-count-bound (c ∷ cs) [] o k = absurd o
-count-bound (c ∷ cs) (v ∷ vs) o zero = o .0
-count-bound (c ∷ cs) (v ∷ vs) o (suc k) = count-bound cs vs (o .1) k
+pub count-bound : (layout : Layout) (vs : List ℕ) → Each (λ c v. v ≤ c .limit) (layout .counts) vs → (k : ℕ) → getD vs k 0 ≤ limitAt layout k
+count-bound layout vs o = each-at (λ c v. v ≤ c .limit) (record { bytes = 0; limit = 0 }) 0 (le-refl 0) (layout .counts) vs o
 
 below-mono : (bound : Bound) {a b c d : ℕ} → a ≤ c → b ≤ d → below bound a b ≤ below bound c d
 below-mono counted p q = p
@@ -121,7 +125,7 @@ unfolding bodyAt writeBody
 body-lawful layout ok =
     restate
     (seq-lawful (λ j. j .counts) (each-lawful 0 (λ c. countAt (c .bytes) (c .limit)) (λ c. bytesOf (c .bytes)) (λ c v. v ≤ c .limit) (layout .counts) (counts-lawful (layout .counts) (ok .counts)))
-    (λ cs vcs. seq-lawful (λ j. j .heads) (each-lawful 0 (λ bytes. setAt bytes (getD cs 1 0)) bytesOf (λ bytes v. v < 2 ^ getD cs 1 0) (layout .heads) (heads-lawful (getD cs 1 0) (limitAt layout 1) (bound cs vcs 1) (layout .heads) (ok .heads)))
+    (λ cs vcs. seq-lawful (λ j. j .heads) (each-lawful 0 (λ bytes. setAt bytes (getD cs 1 0)) bytesOf (λ bytes v. v < 2 ^ getD cs 1 0) (layout .heads) (heads-lawful (getD cs 1 0) (limitAt layout 1) (count-bound layout cs vcs 1) (layout .heads) (ok .heads)))
     (λ hs vhs. seq-lawful (λ j. j .records) (all-records cs vcs)
     (λ rs vrs. pure-lawful (record { kind = layout .kind; counts = cs; heads = hs; records = rs }))
     (λ rs j vrs o. ap (λ (x : Job (List ℕ)). x .records) o))
@@ -131,9 +135,6 @@ body-lawful layout ok =
     (λ j o. (o .counts, (o .heads, ((o .size, o .records), whole j (o .kind)))))
     (λ j o. rw append-nil)
   where
-    bound : (cs : List ℕ) → Each (λ c v. v ≤ c .limit) (layout .counts) cs → (k : ℕ) → getD cs k 0 ≤ limitAt layout k
-    bound cs o k = count-bound (layout .counts) cs o k
-
     all-records : (cs : List ℕ) → Each (λ c v. v ≤ c .limit) (layout .counts) cs
         → Lawful (λ f at. eachAt (recordAt (bytesIn f) layout (getD cs 1 0)) (upFrom (getD cs 0 0) 0) f at) (writeAll (writeRecord layout))
         (λ rs. (length rs ≡ getD cs 0 0) × AllFrom (ValidRecord layout (getD cs 1 0)) 0 rs)
@@ -141,10 +142,10 @@ body-lawful layout ok =
         reread (λ f at. each-same (λ i g. recordAt (bytesIn g) layout (getD cs 1 0) i g) (recordAt (bytesIn f) layout (getD cs 1 0)) f (λ i a. refl) (upFrom (getD cs 0 0) 0) at)
         (all-lawful noRecord (λ i f at. recordAt (bytesIn f) layout (getD cs 1 0) i f at) (writeRecord layout) (ValidRecord layout (getD cs 1 0)) (limitAt layout 0)
         (λ i l. record-lawful layout (getD cs 1 0) i (roomy i (omega arith) (layout .before) (ok .before)) (roomy i (omega arith) (layout .after) (ok .after)) (ok .few) (ok .longest))
-        (getD cs 0 0) (bound cs o 0))
+        (getD cs 0 0) (count-bound layout cs o 0))
       where
         roomy : (i : ℕ) → i ≤ limitAt layout 0 → (fields : List Field) → All (Roomy (limitAt layout 1) (limitAt layout 0)) fields → All (Roomy (getD cs 1 0) i) fields
-        roomy i l fields = room fields (getD cs 1 0) i (limitAt layout 1) (limitAt layout 0) (bound cs o 1) l
+        roomy i l fields = room fields (getD cs 1 0) i (limitAt layout 1) (limitAt layout 0) (count-bound layout cs o 1) l
 
     whole : (j : Job (List ℕ)) → j .kind ≡ layout .kind → j ≡ record { kind = layout .kind; counts = j .counts; heads = j .heads; records = j .records }
     whole j e = ap (λ (k : ℕ). record { kind = k; counts = j .counts; heads = j .heads; records = j .records }) e

@@ -4,6 +4,7 @@ pub mod ItemLaws
 pub mod RecordLaws
 pub mod FileLaws
 pub mod Theorems
+pub mod StatedLaws
 pub mod StepLaws
 pub mod ColumnLaws
 pub mod ReadLaws

@@ -1,7 +1,7 @@
 -- Reading is the same whatever a name is taken for: the job's names are the bytes that stand at the spots. Assumes nothing.
 use mathlib.Core.Path.{_≡_, refl, ap, _∙_}
 use mathlib.Core.Bool.{Bool, true, false}
-use mathlib.Core.List.{List, [], _∷_, map}
+use mathlib.Core.List.{List, [], _∷_, map, map-map}
 use Prim.Native.Nat.{ℕ, zero, suc, _+_}
 use lib.Dec.{ltb}
 use lib.ListN.{length, getD, take, drop}
@@ -12,7 +12,7 @@ use Rattle.reading.specs.declared.Spot.{Spot}
 use Rattle.reading.specs.Got.{Got, got, refused, refuse, andThen, optional, eachAt, upFrom}
 use Rattle.reading.specs.Items.{bytesIn, spots, countAt, mapAt, setAt, lengthAt, nameAt}
 use Rattle.jobfile.specs.Layout.{Layout, nameBit, bits}
-use Rattle.jobfile.specs.Job.{Record, Job, namesOf}
+use Rattle.jobfile.specs.Job.{Record, Job, column, namesOf}
 use Rattle.jobfile.specs.Read.{fieldsAt, recordAt, bodyAt, layoutAt, read, readJob}
 use Rattle.jobfile.specs.Meaning.{spotIn, nameIn}
 
@@ -88,6 +88,10 @@ module _ (f : List ℕ) where
       and-map jobBy (layoutAt takes f 0) _ _ (λ layout a.
       ap (λ r. andThen r λ job end. refuse (ltb end (length f)) TrailingBytes end (got job (length f))) (body-same layout a)
       ∙ map-then jobBy jobBy (bodyAt spots layout f a) _ _ (λ job end. refuse-map jobBy (ltb end (length f)) TrailingBytes end (got job (length f))))
+
+  -- the fields are not touched
+  pub column-by : (k : ℕ) (records : List (Record Spot)) → column k (map recordBy records) ≡ column k records
+  column-by k records = map-map (λ r. getD (r .before) k 0) recordBy records
 
   pub names-same : (records : List (Record Spot)) (i : ℕ) → getD (namesOf (map recordBy records)) i [] ≡ bytesAt f (getD (namesOf records) i (spots .absent))
   names-same [] i = refl

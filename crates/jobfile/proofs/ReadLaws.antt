@@ -6,7 +6,7 @@ use Prim.Native.Nat.{ℕ, zero, suc, _+_, _≤_, _<_, zero-le}
 use native.Mathlib.Decide.{decLt}
 use native.Mathlib.Omega.{arith}
 use lib.Dec.{eqb}
-use lib.ListN.{length, getD, List·getD-eq-default}
+use lib.ListN.{length, getD, length-map, List·getD-eq-default}
 use lib.Seq.{ext-getD}
 use Rattle.sets.specs.Ranges.{listTo}
 use Rattle.sets.proofs.Ranges.{list-length, list-at, list-past, list-map}
@@ -26,6 +26,7 @@ use Rattle.reading.specs.Items.{Naming, spots, kindAt, countAt, setAt}
 use Rattle.jobfile.specs.Layout.{choice, fitting, kinds, layoutIn}
 use Rattle.jobfile.specs.Job.{Record, Job, namesOf, wishes, clashes, needs, gives, takes}
 use Rattle.jobfile.specs.Read.{recordAt, layoutAt, read, choices, fittings, either}
+use Rattle.jobfile.specs.Valid.{Bytes}
 use Rattle.reading.specs.Meaning.{gotBy, readFrom, finished, ended}
 use Rattle.jobfile.specs.Meaning.{lensOf, spotOf, spotIn, recordFrom, recordsOf, Tidy, Column, Columns, padded, startsOf, choiceRead, fittingRead, Few, NamesWithin, ChoiceBounds, FittingBounds}
 use Rattle.reading.proofs.StepLaws.{each-none, each-more}
@@ -122,7 +123,7 @@ module _ (f : List ℕ) (n w order : ℕ) (found : Records) (a b c d : Cursor)
 
 module _ (f : List ℕ) (n m rounds begin goal : ℕ) (found : Records) (a b c d e₁ g : Cursor)
     (kind : gotBy 70 a ≡ kindAt fittings f 0) (first : gotBy n b ≡ readFrom a (countAt 1 32 f)) (second : gotBy m c ≡ readFrom b (countAt 1 32 f)) (third : gotBy rounds d ≡ readFrom c (countAt 1 16 f))
-    (head : gotBy begin e₁ ≡ readFrom d (setAt 4 m f)) (aim : gotBy goal g ≡ readFrom e₁ (setAt 4 m f)) (each : recordsOf Fitting n found ≡ readFrom g (eachAt (recordAt spots fitting m) (upFrom n 0) f)) where
+    (head : gotBy begin e₁ ≡ readFrom d (setAt 4 m f)) (aim : gotBy goal g ≡ readFrom e₁ (setAt 4 m f)) (each : recordsOf Fitting n found ≡ readFrom g (eachAt (recordAt spots fitting m) (upFrom n 0) f)) (bytes : Bytes f) where
   fittingJob : Job Spot
   fittingJob = record { kind = 70; counts = n ∷ m ∷ rounds ∷ []; heads = begin ∷ goal ∷ []; records = held Fitting n found }
 
@@ -142,7 +143,7 @@ module _ (f : List ℕ) (n m rounds begin goal : ℕ) (found : Records) (a b c d
       → (x ≡ fittingRead (read spots fittings f)) × FittingBounds f x
   fitting-refused {end} {r} {x} e q h =
       let told = end-refused fittingJob f (found .next) e fitting-read q in
-      (h ∙ ap fittingRead told, rw h (zero-le, zero-le, zero-le, within-none (length f), subst (Few 32) told tt))
+      (h ∙ ap fittingRead told, rw h (zero-le, zero-le, zero-le, within-none (length f), subst (Few 32) told tt, bytes))
 
   pub fitting-accepted : {end : Cursor} {at : ℕ} → end ≡ finished (length f) (found .next) → end ≡ Cursor.At at → n ≤ 32 → m ≤ 32 → rounds ≤ 16 → Columns Fitting n (length f) found
       → let x : ReadFitting = record { verdict = Verdict.Accepted; steps = n; facts = m; horizon = rounds; start = begin; goal = goal; needs = found .first; gives = found .second; takes = found .third; starts = found .starts; lens = found .lens } in
@@ -163,7 +164,7 @@ module _ (f : List ℕ) (n m rounds begin goal : ℕ) (found : Records) (a b c d
             ∙ ap (λ (l : List ℕ). record { verdict = Verdict.Accepted; steps = n; facts = m; horizon = rounds; start = begin; goal = goal; needs = padded 64 (needs fittingJob); gives = padded 64 (gives fittingJob); takes = padded 64 (takes fittingJob); starts = l; lens = found .lens }) starts
             ∙ ap (λ (l : List ℕ). record { verdict = Verdict.Accepted; steps = n; facts = m; horizon = rounds; start = begin; goal = goal; needs = padded 64 (needs fittingJob); gives = padded 64 (gives fittingJob); takes = padded 64 (takes fittingJob); starts = padded 64 (startsOf (fittingJob .records)); lens = l }) lens
             ∙ ap fittingRead told,
-        (ln, lm, lr, λ i. tidy-within Fitting (length f) 0 _ _ (ok .tidy i), subst (Few 32) told (list-length n from, ln)),
+        (ln, lm, lr, λ i. tidy-within Fitting (length f) 0 _ _ (ok .tidy i), subst (Few 32) told (list-length n from, ln), bytes),
       )
 
 -- ---- names of either kind
@@ -206,10 +207,6 @@ len-at [] i = refl
 len-at (r ∷ rs) zero = refl
 len-at (r ∷ rs) (suc i) = len-at rs i
 
-length-names : (records : List (Record Spot)) → length (namesOf records) ≡ length records
-length-names [] = refl
-length-names (r ∷ rs) = ap suc (length-names rs)
-
 spot-at : (records : List (Record Spot)) → length records ≤ 64 → (i : ℕ) → spotOf (padded 64 (startsOf records)) (padded 64 (lensOf records)) i ≡ getD (namesOf records) i (spots .absent)
 spot-at records few i = go (decLt i 64)
   where
@@ -219,7 +216,7 @@ spot-at records few i = go (decLt i 64)
     go : Dec (i < 64) → spotOf (padded 64 (startsOf records)) (padded 64 (lensOf records)) i ≡ getD (namesOf records) i (spots .absent)
     go (yes h) = both _ _ (list-at 64 (λ j. getD (startsOf records) j 0) 0 i h ∙ start-at records i) (list-at 64 (λ j. getD (lensOf records) j 0) 0 i h ∙ len-at records i)
     go (no h) =
-        let none = List·getD-eq-default (namesOf records) (spots .absent) {n = i} (omega (arith, length-names records)) in
+        let none = List·getD-eq-default (namesOf records) (spots .absent) {n = i} (omega (arith, length-map records (λ r. r .name))) in
         both _ _ (list-past 64 (λ j. getD (startsOf records) j 0) 0 i (omega arith) ∙ sym (ap (λ (s : Spot). s .start) none)) (list-past 64 (λ j. getD (lensOf records) j 0) 0 i (omega arith) ∙ sym (ap (λ (s : Spot). s .len) none))
 
 pub choice-spot : (g : Got (Job Spot)) → Few 64 g → (i : ℕ) → spotOf (choiceRead g .starts) (choiceRead g .lens) i ≡ spotIn g i

@@ -1,5 +1,5 @@
 -- One job, one writing (docs/RULES.md, "Job files"; demand 2), over all kinds at once. Assumes nothing.
-use mathlib.Core.Path.{_≡_, refl, ap, sym, _∙_}
+use mathlib.Core.Path.{_≡_, refl, ap, sym, _∙_, subst}
 use mathlib.Core.Bool.{Bool, true}
 use mathlib.Core.List.{List, [], _∷_, _++_, append-nil}
 use mathlib.Core.Option.{Option, none, some}
@@ -57,6 +57,10 @@ by-valid job (some layout) e o = record { layout = layout; known = e; counts = o
 
 valid-by : (job : Job (List ℕ)) → Valid job → BodyBy (layoutOf (job .kind)) job
 valid-by job o = rw (o .known) (record { kind = sym (layout-found Sound kinds (job .kind) kinds-sound (o .known) .0); counts = o .counts; heads = o .heads; size = o .size; records = o .records })
+
+-- so what holds of a valid job holds by the layout of its kind
+pub body-of : (job : Job (List ℕ)) {layout : Layout} → Valid job → layoutOf (job .kind) ≡ some layout → Body layout job
+body-of job ok e = subst (λ (l : Option Layout). BodyBy l job) e (valid-by job ok)
 
 by-written : (job : Job (List ℕ)) (l : Option Layout) → BodyBy l job → job .kind ∷ restBy l job ≡ writeBy l job
 by-written job none o = absurd o

@@ -18,6 +18,7 @@ use Rattle.jobfile.specs.declared.ReadChoice.{ReadChoice}
 use Rattle.jobfile.specs.declared.ReadFitting.{ReadFitting}
 use Rattle.reading.specs.Items.{spots}
 use Rattle.jobfile.specs.Read.{read, choices, fittings}
+use Rattle.jobfile.specs.Valid.{Bytes}
 use Rattle.jobfile.specs.Job.{Record, Job, namesOf, size, wishCount, order, wishes, clashes, factCount, horizon, start, goal, needs, gives, takes}
 
 -- ---- records, by the kind of their file
@@ -145,9 +146,10 @@ abbrev pub nameIn : Got (Job (List ℕ)) → ℕ → List ℕ
 nameIn (refused reason place) i = []
 nameIn (got job end) i = getD (namesOf (job .records)) i []
 
--- what a reader keeps to beside its equation: the limits, and names within the file
+-- what a reader keeps to beside its equation: the limits, and names within the file; of a fitting also that the file is one of bytes, as the theorems
+-- on what a file states ask
 abbrev pub ChoiceBounds : List ℕ → ReadChoice → Type 0
 ChoiceBounds f r = (r .articles ≤ 64) × (r .«wish_count» ≤ 64) × NamesWithin (length f) (r .starts) (r .lens) × Few 64 (read spots choices f)
 
 abbrev pub FittingBounds : List ℕ → ReadFitting → Type 0
-FittingBounds f r = (r .steps ≤ 32) × (r .facts ≤ 32) × (r .horizon ≤ 16) × NamesWithin (length f) (r .starts) (r .lens) × Few 32 (read spots fittings f)
+FittingBounds f r = (r .steps ≤ 32) × (r .facts ≤ 32) × (r .horizon ≤ 16) × NamesWithin (length f) (r .starts) (r .lens) × Few 32 (read spots fittings f) × Bytes f

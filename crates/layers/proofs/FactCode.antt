@@ -3,20 +3,20 @@ use mathlib.Core.Path.{_≡_, refl, sym, ap, ap₂, subst, _∙_}
 use mathlib.Core.Logic.{_⊎_, inl, inr, _≢_}
 use mathlib.Core.Bool.{Bool, true, false, not, _&&_, _||_, false≢true}
 use mathlib.Core.List.{List, []}
-use Prim.Native.Nat.{ℕ, _+_, _-_, _^_, _<_, min}
+use Prim.Native.Nat.{ℕ, _+_, _-_, _^_, _≤_, _<_, min}
 use native.Mathlib.Decide.{decLt, ℕ-discrete}
 use native.Mathlib.Omega.{arith}
 use lib.Bits.{bitAnd, and-le-r}
 use lib.Dec.{eqb}
-use lib.ListN.{getD, set, replicate, length-set, length-replicate, getD-replicate}
-use lib.Seq.{getD-set-same, getD-set-other, ext-getD}
+use lib.ListN.{getD}
 use borrow.Author.Tests.{not-true}
 use Rattle.sets.specs.Ranges.{num, everyTo, listTo}
 use Rattle.sets.specs.Sets.{bit, _∈_, _⊆_, member, without, part, meets, full, setOf, gathered, lowest}
-use Rattle.sets.proofs.Ranges.{both-true, same-true, num-le, num-both, every-at, at-every, list-length, list-at, list-past}
+use Rattle.sets.proofs.Ranges.{both-true, same-true, num-le, num-both, every-at, at-every, list-at, list-past}
 use Rattle.sets.proofs.Bits.{ext, bit-le, bit-cases, bit-empty, bit-and, bit-without, bit-full, full-below, member-yes, yes-member, num-member, part-in, in-part, part-yes, yes-part, part-full, part-below, member-below, without-in, in-without, without-le, meets-no, no-meets, in-less, less-in}
 use Rattle.sets.proofs.Made.{set-below, set-bit, set-in, in-set, gathered-at, gathered-from}
 use Rattle.sets.proofs.Lowest.{lowest-below, lowest-member}
+use Rattle.sets.proofs.Filled.{Filled, filled-end}
 use Rattle.jobfile.specs.Meaning.{padded}
 use Rattle.sets.specs.Tables.{transposed}
 use Rattle.sets.proofs.Tables.{turned-at}
@@ -258,34 +258,14 @@ module _ (w members facts p : ℕ) (gives words turned : List ℕ) (fits : membe
 
 -- ---- a loop that fills the first words of an array
 
--- one word more
-set-list : (w p x : ℕ) (f g : ℕ → ℕ) → p < w → x ≡ g p → ((k : ℕ) → k ≢ p → f k ≡ g k) → set (listTo w f) p x ≡ listTo w g
-set-list w p x f g l e h =
-    ext-getD 0 (set (listTo w f) p x) (listTo w g) (length-set (listTo w f) p x ∙ list-length w f ∙ sym (list-length w g))
-    (λ k j. go k (omega (arith, j, length-set (listTo w f) p x, list-length w f)) (ℕ-discrete k p))
+-- the words below i are made, and 0 stands behind them
+pub filled-padded : (w : ℕ) (f : ℕ → ℕ) (rows : List ℕ) (i n : ℕ) → Filled w f rows i → ((k : ℕ) → i ≤ k → getD rows k 0 ≡ 0) → i ≡ n → rows ≡ padded w (listTo n f)
+filled-padded w f rows i n (size, held) past e =
+    filled-end w (λ k. getD (listTo i f) k 0) rows w (size, λ k l. go k (decLt k i)) refl ∙ ap (λ (m : ℕ). padded w (listTo m f)) e
   where
-    go : (k : ℕ) → k < w → Dec (k ≡ p) → getD (set (listTo w f) p x) k 0 ≡ getD (listTo w g) k 0
-    go k j (yes q) =
-        ap (λ (i : ℕ). getD (set (listTo w f) p x) i 0) q
-        ∙ getD-set-same (listTo w f) p x 0 (omega (arith, list-length w f)) ∙ e
-        ∙ ap g (sym q) ∙ sym (list-at w g 0 k j)
-    go k j (no d) = getD-set-other (listTo w f) p k x 0 d ∙ list-at w f 0 k j ∙ h k d ∙ sym (list-at w g 0 k j)
-
--- the words below p are made, and 0 stands behind them
-pub padded-start : (w : ℕ) (f : ℕ → ℕ) → replicate {A = ℕ} w 0 ≡ padded w (listTo 0 f)
-unfolding listTo
-padded-start w f =
-    ext-getD 0 (replicate {A = ℕ} w 0) (listTo w (λ i. 0)) (length-replicate {A = ℕ} w 0 ∙ sym (list-length w (λ i. 0)))
-    (λ k l. let h : k < w = omega (arith, length-replicate {A = ℕ} w 0) in getD-replicate w k 0 0 h ∙ sym (list-at w (λ i. 0) 0 k h))
-
-pub padded-turn : (w : ℕ) (f : ℕ → ℕ) (l : List ℕ) (p x : ℕ) → p < w → l ≡ padded w (listTo p f) → x ≡ f p → set l p x ≡ padded w (listTo (p + 1) f)
-padded-turn w f l p x h el ex =
-    ap (λ (m : List ℕ). set m p x) el
-    ∙ set-list w p x (λ i. getD (listTo p f) i 0) (λ i. getD (listTo (p + 1) f) i 0) h (ex ∙ sym (list-at (p + 1) f 0 p (omega arith))) (λ k d. go k d (decLt k p))
-  where
-    go : (k : ℕ) → k ≢ p → Dec (k < p) → getD (listTo p f) k 0 ≡ getD (listTo (p + 1) f) k 0
-    go k d (yes j) = list-at p f 0 k j ∙ sym (list-at (p + 1) f 0 k (omega arith))
-    go k d (no j) = list-past p f 0 k (omega arith) ∙ sym (list-past (p + 1) f 0 k (omega arith))
+    go : (k : ℕ) → Dec (k < i) → getD rows k 0 ≡ getD (listTo i f) k 0
+    go k (yes l) = held k l ∙ sym (list-at i f 0 k l)
+    go k (no l) = past k (omega arith) ∙ sym (list-past i f 0 k (omega arith))
 
 -- ---- the fact layer
 

@@ -7,10 +7,9 @@ use lib.Bits.{bitOr}
 use lib.Dec.{ltb}
 use lib.ListN.{getD}
 use Rattle.sets.specs.Ranges.{given, listTo}
-use Rattle.jobfile.specs.declared.ReadFitting.{ReadFitting}
 use Rattle.jobfile.specs.Meaning.{padded}
 use Rattle.sets.specs.Tables.{transposed}
-use Rattle.planning.specs.Rounds.{Steps, Fitting, listedSteps}
+use Rattle.planning.specs.Rounds.{Steps, listedSteps}
 use Rattle.planning.specs.Layers.{Layer}
 
 -- a layer in words
@@ -30,12 +29,7 @@ abbrev pub uses : Steps → ℕ → ℕ
 uses S x = bitOr (S .needs x) (S .gives x)
 
 -- for each fact the vertices that need or give it, those that take it, and those that need it
-pub record Turned (needs gives takes users takers needers : List ℕ) : Type 0 where
-  pub used : users ≡ transposed 64 (listTo 64 (uses (listedSteps needs gives [])))
-  pub taken : takers ≡ transposed 64 takes
-  pub needed : needers ≡ transposed 64 needs
-
--- the fitting of a file as read
-abbrev pub fittingIn : ReadFitting → Fitting
-fittingIn job =
-    record { count = job .steps; facts = job .facts; steps = listedSteps (job .needs) (job .gives) (job .takes); start = job .start; goal = job .goal; horizon = job .horizon }
+pub record Turned (needs gives takes us ts ns : List ℕ) : Type 0 where
+  pub users : us ≡ transposed 64 (listTo 64 (uses (listedSteps needs gives [])))
+  pub takers : ts ≡ transposed 64 takes
+  pub needers : ns ≡ transposed 64 needs

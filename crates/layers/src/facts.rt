@@ -9,8 +9,9 @@ ghost use Rattle.sets.specs.Sets.{member, meets, setOf, gathered};
 ghost use Rattle.jobfile.specs.Meaning.{padded};
 ghost use Rattle.sets.specs.Tables.{transposed};
 ghost use Rattle.planning.specs.Rounds.{listedSteps};
-ghost use Rattle.planning.specs.Layers.{mutexWith, mutexWord, mutexes, excluded};
+ghost use Rattle.planning.specs.Layers.{mutexWord, mutexes, excluded};
 ghost use Rattle.layers.specs.Meaning.{layer};
+use crate::FACTS;
 use sets::word;
 
 // Those that are mutex with all members of the set.
@@ -43,34 +44,10 @@ fn ungiven(turned: &[u64; 64], free: u64, set: u64) -> u64
     kept
 }
 
-// The facts that p is mutex with. Near are the facts that a vertex gives which is against p: mutex
-// with all givers of p. Shared are those that a giver of p gives. The others that are near and not
-// shared are likely, and in the row if only vertices against p give them.
+// The facts that p is mutex with; an absent fact has none. Near are the facts that a vertex gives which is
+// against p: mutex with all givers of p. Shared are those that a giver of p gives. The others that are near
+// and not shared are likely, and in the row if only vertices against p give them.
 fn row(
-    gives: &[u64; 64],
-    turned: &[u64; 64],
-    words: &[u64; 64],
-    members: u64,
-    facts: u64,
-    p: usize,
-) -> u64
-    requires { ⌜ p < 64 ⌝ }
-    requires { ⌜ now turned ≡ transposed 64 (now gives) ⌝ }
-    requires { ⌜ facts ≡ gathered 64 members (λ x. getD (now gives) x 0) ⌝ }
-    ensures { λ r. ⌜ r ≡ setOf 32 (mutexWith facts (excluded 32 (listedSteps [] (now (gives .entry)) []) (layer members (now (words .entry)))) p) ⌝ }
-{
-    let others = word::less(facts, p);
-    let givers = turned[p] & members;
-    let against = common(words, givers);
-    let near = word::gather(gives, against);
-    let shared = word::gather(gives, givers);
-    let likely = word::without(others & near & 0xffff_ffff, shared);
-    let free = word::without(members, against);
-    ungiven(turned, free, likely)
-}
-
-// The word of fact p: an absent fact has 0.
-fn word_of(
     gives: &[u64; 64],
     turned: &[u64; 64],
     words: &[u64; 64],
@@ -86,7 +63,14 @@ fn word_of(
     if word::bit_at(facts, p) == 0 {
         return 0;
     }
-    row(gives, turned, words, members, facts, p)
+    let others = word::less(facts, p);
+    let givers = turned[p] & members;
+    let against = common(words, givers);
+    let near = word::gather(gives, against);
+    let shared = word::gather(gives, givers);
+    let likely = word::without(others & near & 0xffff_ffff, shared);
+    let free = word::without(members, against);
+    ungiven(turned, free, likely)
 }
 
 // The words of the 32 facts; 0 behind them.
@@ -103,8 +87,8 @@ pub fn words(
 {
     let mut all: [u64; 64] = [0; 64];
     let mut p: usize = 0;
-    while p < 32 {
-        all[p] = word_of(gives, turned, words, members, facts, p);
+    while p < FACTS {
+        all[p] = row(gives, turned, words, members, facts, p);
         p += 1;
     }
     all

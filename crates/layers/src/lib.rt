@@ -1,5 +1,5 @@
-// One layer of the planning graph from the one below it, on words of 64 bits. Facts are bits 0 to 31. Of
-// the vertices, bit t is the keeper of fact t, and bit 32 + a is step a.
+// The layers of the planning graph on words of 64 bits: one from the one below it, and those of a fitting
+// file as read by their number.
 ghost use mathlib.Core.Path.{_≡_};
 ghost use mathlib.Core.Bool.{true, false};
 ghost use mathlib.Core.List.{[]};
@@ -7,15 +7,21 @@ ghost use Prim.Native.Nat.{ℕ, _+_, _^_, _≤_, _<_};
 ghost use lib.ListN.{getD};
 ghost use Rattle.sets.specs.Ranges.{listTo};
 ghost use Rattle.planning.specs.Rounds.{listedSteps};
-ghost use Rattle.planning.specs.Layers.{roundOver, factsOver};
+ghost use Rattle.planning.specs.Layers.{roundOver, factsOver, factLayer, roundLayer};
+ghost use Rattle.planning.specs.Back.{Sized};
+ghost use Rattle.planning.specs.Meaning.{fittingIn};
 ghost use Rattle.layers.specs.Meaning.{layer, roomy, vertexWords};
 
 mod facts;
 mod rounds;
 mod vertices;
 
+use jobfile::ReadFitting;
 use sets::table;
 use sets::word;
+
+// Facts are bits 0 to 31. Of the vertices, bit t is the keeper of fact t, and bit 32 + a is step a.
+const FACTS: usize = 32;
 
 // The members of a layer, and for each of them those that it is mutex with.
 pub struct Layer {
@@ -70,4 +76,41 @@ pub fn facts_over(gives: &[u64; 64], below: Layer) -> Layer
         members: members,
         words: mutex,
     }
+}
+
+// Fact layer k.
+pub fn fact_layer(job: ReadFitting, k: usize) -> Layer
+    requires { ⌜ Sized 32 (fittingIn job) ⌝ }
+    ensures { λ r. ⌜ layer (r .members) (r .words) ≡ roomy 64 (factLayer 32 (fittingIn job) k) ⌝ }
+{
+    let a = job.needs;
+    let b = job.gives;
+    let c = job.takes;
+    let needs = with_keepers(&a);
+    let gives = with_keepers(&b);
+    let takes = without_keepers(&c);
+    let mut facts = Layer {
+        members: job.start,
+        words: [0; 64],
+    };
+    let mut i: usize = 0;
+    while i < k {
+        facts = facts_over(&gives, round_over(&needs, &gives, &takes, job.steps, facts));
+        i += 1;
+    }
+    facts
+}
+
+// Round layer k.
+pub fn round_layer(job: ReadFitting, k: usize) -> Layer
+    requires { ⌜ Sized 32 (fittingIn job) × (0 < k) ⌝ }
+    ensures { λ r. ⌜ layer (r .members) (r .words) ≡ roundLayer 32 (fittingIn job) k ⌝ }
+{
+    let a = job.needs;
+    let b = job.gives;
+    let c = job.takes;
+    let needs = with_keepers(&a);
+    let gives = with_keepers(&b);
+    let takes = without_keepers(&c);
+    round_over(&needs, &gives, &takes, job.steps, fact_layer(job, k - 1))
 }

@@ -5,11 +5,12 @@ ghost use mathlib.Core.List.{List, []};
 ghost use Prim.Native.Nat.{ℕ, _+_, _^_, _≤_, _<_};
 ghost use lib.ListN.{getD};
 ghost use Rattle.sets.specs.Ranges.{listTo};
-ghost use Rattle.sets.specs.Sets.{member, meets, setOf};
+ghost use Rattle.sets.specs.Sets.{member, meets};
 ghost use Rattle.sets.specs.Tables.{transposed};
 ghost use Rattle.planning.specs.Rounds.{listedSteps};
-ghost use Rattle.planning.specs.Layers.{mutexWith, mutexWord, mutexes, stands, standing, rivals};
+ghost use Rattle.planning.specs.Layers.{mutexWord, mutexes, stands, standing, rivals};
 ghost use Rattle.layers.specs.Meaning.{layer, uses, Turned};
+use crate::FACTS;
 use sets::table;
 use sets::word;
 
@@ -34,7 +35,7 @@ pub fn standing(needs: &[u64; 64], count: usize, facts: u64, words: &[u64; 64]) 
 {
     let mut set: u64 = 0;
     let mut x: usize = 0;
-    while x < 32 + count {
+    while x < FACTS + count {
         let up = stands(needs, x, facts, words);
         set = word::more_if(set, x, up);
         x += 1;
@@ -62,35 +63,9 @@ fn meeting(turned: &[u64; 64], s: u64) -> u64
     word::gather(turned, s)
 }
 
-// Those that x is mutex with: it takes what they need or give, they take what it needs or gives, or
-// they need a fact that is mutex with a need of x.
+// Those that x is mutex with: it takes what they need or give, they take what it needs or gives, or they
+// need a fact that is mutex with a need of x. An absent vertex has none.
 fn row(
-    needs: &[u64; 64],
-    gives: &[u64; 64],
-    takes: &[u64; 64],
-    words: &[u64; 64],
-    users: &[u64; 64],
-    takers: &[u64; 64],
-    needers: &[u64; 64],
-    members: u64,
-    x: usize,
-) -> u64
-    requires { ⌜ x < 64 ⌝ }
-    requires { ⌜ ((v : ℕ) → v < 64 → getD (now needs) v 0 < 2 ^ 32) ⌝ }
-    requires { ⌜ Turned (now needs) (now gives) (now takes) (now users) (now takers) (now needers) ⌝ }
-    ensures { λ r. ⌜ r ≡ setOf 64 (mutexWith members (rivals 32 (listedSteps (now (needs .entry)) (now (gives .entry)) (now (takes .entry))) (layer 0 (now (words .entry)))) x) ⌝ }
-{
-    let others = word::less(members, x);
-    let need = needs[x];
-    let disturbed = meeting(users, takes[x]);
-    let disturbing = meeting(takers, need | gives[x]);
-    let against = word::gather(words, need);
-    let opposed = meeting(needers, against);
-    others & (disturbed | disturbing | opposed)
-}
-
-// The word of x: an absent vertex has 0.
-fn word_of(
     needs: &[u64; 64],
     gives: &[u64; 64],
     takes: &[u64; 64],
@@ -109,51 +84,13 @@ fn word_of(
     if word::bit_at(members, x) == 0 {
         return 0;
     }
-    row(
-        needs,
-        gives,
-        takes,
-        words,
-        users,
-        takers,
-        needers,
-        members,
-        x,
-    )
-}
-
-// The words of all, by the tables turned round.
-fn words_by(
-    needs: &[u64; 64],
-    gives: &[u64; 64],
-    takes: &[u64; 64],
-    words: &[u64; 64],
-    users: &[u64; 64],
-    takers: &[u64; 64],
-    needers: &[u64; 64],
-    members: u64,
-) -> [u64; 64]
-    requires { ⌜ ((v : ℕ) → v < 64 → getD (now needs) v 0 < 2 ^ 32) ⌝ }
-    requires { ⌜ Turned (now needs) (now gives) (now takes) (now users) (now takers) (now needers) ⌝ }
-    ensures { λ r. ⌜ r ≡ mutexes 64 members (rivals 32 (listedSteps (now (needs .entry)) (now (gives .entry)) (now (takes .entry))) (layer 0 (now (words .entry)))) ⌝ }
-{
-    let mut all: [u64; 64] = [0; 64];
-    let mut x: usize = 0;
-    while x < 64 {
-        all[x] = word_of(
-            needs,
-            gives,
-            takes,
-            words,
-            users,
-            takers,
-            needers,
-            members,
-            x,
-        );
-        x += 1;
-    }
-    all
+    let others = word::less(members, x);
+    let need = needs[x];
+    let disturbed = meeting(users, takes[x]);
+    let disturbing = meeting(takers, need | gives[x]);
+    let against = word::gather(words, need);
+    let opposed = meeting(needers, against);
+    others & (disturbed | disturbing | opposed)
 }
 
 // The words of all. For each fact, users need or give it, takers take it, and needers need it.
@@ -171,14 +108,21 @@ pub fn words(
     let users = table::transposed(&uses);
     let takers = table::transposed(takes);
     let needers = table::transposed(needs);
-    words_by(
-        needs,
-        gives,
-        takes,
-        words,
-        &users,
-        &takers,
-        &needers,
-        members,
-    )
+    let mut all: [u64; 64] = [0; 64];
+    let mut x: usize = 0;
+    while x < 64 {
+        all[x] = row(
+            needs,
+            gives,
+            takes,
+            words,
+            &users,
+            &takers,
+            &needers,
+            members,
+            x,
+        );
+        x += 1;
+    }
+    all
 }

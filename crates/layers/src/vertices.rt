@@ -3,6 +3,7 @@ ghost use mathlib.Core.Path.{_≡_};
 ghost use Prim.Native.Nat.{_<_};
 ghost use Rattle.sets.specs.Ranges.{listTo};
 ghost use Rattle.layers.specs.Meaning.{vertexWords};
+use crate::FACTS;
 use sets::word;
 
 // What vertex x has: a keeper its own fact, or nothing; a step its word.
@@ -10,10 +11,10 @@ fn entry(steps: &[u64; 64], kept: bool, x: usize) -> u64
     requires { ⌜ x < 64 ⌝ }
     ensures { λ r. ⌜ r ≡ vertexWords 32 kept (now (steps .entry)) x ⌝ }
 {
-    if x < 32 {
+    if x < FACTS {
         return word::more_if(0, x, kept);
     }
-    steps[x - 32]
+    steps[x - FACTS]
 }
 
 pub fn table(steps: &[u64; 64], kept: bool) -> [u64; 64]

@@ -5,7 +5,7 @@ ghost use Prim.Native.Nat.{_≤_};
 ghost use lib.ListN.{length};
 ghost use Rattle.planning.specs.Rounds.{fewest};
 ghost use Rattle.planning.specs.Back.{Sized};
-ghost use Rattle.layers.specs.Meaning.{fittingIn};
+ghost use Rattle.planning.specs.Meaning.{fittingIn};
 ghost use Rattle.planner.specs.Planner.{plannedBy, Words};
 
 mod search;

@@ -3,7 +3,7 @@ ghost use Prim.Native.Nat.{_≤_};
 ghost use lib.ListN.{length};
 ghost use Rattle.sets.specs.Sets.{_⊆_};
 ghost use Rattle.extraction.specs.Extraction.{graph, Fine};
-ghost use Rattle.layers.specs.Meaning.{fittingIn};
+ghost use Rattle.planning.specs.Meaning.{fittingIn};
 ghost use Rattle.reachability.specs.States.{Hopeless};
 ghost use Rattle.planner.specs.Tabulated.{Copied, Unplanned, Searched};
 use crate::Planned;

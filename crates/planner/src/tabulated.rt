@@ -2,7 +2,7 @@
 ghost use Prim.Native.Nat.{_+_, _*_, _≤_, _<_};
 ghost use lib.ListN.{length};
 ghost use Rattle.planning.specs.Back.{Sized};
-ghost use Rattle.layers.specs.Meaning.{fittingIn};
+ghost use Rattle.planning.specs.Meaning.{fittingIn};
 ghost use Rattle.planner.specs.Tabulated.{Laid, Put};
 use jobfile::ReadFitting;
 use layers::Layer;

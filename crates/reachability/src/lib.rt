@@ -7,7 +7,7 @@ ghost use lib.Bits.{bitOr};
 ghost use lib.ListN.{length};
 ghost use Rattle.sets.specs.Sets.{without};
 ghost use Rattle.planning.specs.Rounds.{listedSteps};
-ghost use Rattle.layers.specs.Meaning.{fittingIn};
+ghost use Rattle.planning.specs.Meaning.{fittingIn};
 ghost use Rattle.reachability.specs.States.{Hopeless, Placed, Entered, Tried, Expanded};
 use jobfile::ReadFitting;
 use sets::word;

@@ -4,8 +4,8 @@ use mathlib.Core.Path.{ap}
 use native.Mathlib.Omega.{arith}
 use denote.Ref.{now}
 use lib.ListN.{length}
-use Rattle.layers.specs.Meaning.{fittingIn}
-use Rattle.expansion.proofs.ReadLaws.{sized-read}
+use Rattle.planning.specs.Meaning.{fittingIn}
+use Rattle.planning.proofs.ReadLaws.{sized-read}
 use Rattle.arguments.proofs.TestLaws.{layer-passed}
 use Rattle.calls.proofs.CallLaws.{fitting-job}
 use Rattle.calls.proofs.FittingLaws.{facts-fit, words-fit, facts-down, facts-stopped, facts-made}

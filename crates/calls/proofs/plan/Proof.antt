@@ -5,7 +5,7 @@ use native.Mathlib.Omega.{arith}
 use denote.Ref.{now}
 use Rattle.arguments.specs.Answers.{refusalSaid}
 use Rattle.arguments.proofs.TestLaws.{room-passed}
-use Rattle.expansion.proofs.ReadLaws.{sized-read}
+use Rattle.planning.proofs.ReadLaws.{sized-read}
 use Rattle.calls.proofs.CallLaws.{fitting-job}
 use Rattle.calls.proofs.ToldLaws.{seen}
 use Rattle.calls.proofs.FittingLaws.{Promised, plan-down, plan-short, plan-made, plan-none}

@@ -4,7 +4,7 @@ use mathlib.Core.Path.{ap}
 use native.Mathlib.Omega.{arith}
 use denote.Ref.{now}
 use lib.ListN.{length}
-use Rattle.expansion.proofs.ReadLaws.{sized-read}
+use Rattle.planning.proofs.ReadLaws.{sized-read}
 use Rattle.arguments.proofs.TestLaws.{layer-passed}
 use Rattle.calls.proofs.CallLaws.{fitting-job}
 use Rattle.calls.proofs.FittingLaws.{vertices-down, vertices-stopped, vertices-made}

@@ -5,7 +5,7 @@ use Prim.Native.Nat.{ℕ, _-_, _≤_}
 use native.Mathlib.Omega.{arith}
 use denote.Ref.{now}
 use lib.ListN.{length, take}
-use Rattle.layers.specs.Meaning.{fittingIn}
+use Rattle.planning.specs.Meaning.{fittingIn}
 use Rattle.extraction.specs.Extraction.{graph}
 use Rattle.planner.specs.Tabulated.{Tabulated, Searched}
 use Rattle.planner.proofs.PlannerLaws.{tabulated, members-length, unplanned, goal-inside, fine, solved-count, solved-words}

@@ -8,7 +8,7 @@ use lib.ListN.{length, getD}
 use Rattle.sets.specs.Sets.{_⊆_}
 use Rattle.sets.proofs.Ranges.{one-more}
 use Rattle.sets.proofs.Bits.{without-none}
-use Rattle.layers.specs.Meaning.{fittingIn}
+use Rattle.planning.specs.Meaning.{fittingIn}
 use Rattle.reachability.specs.States.{Among}
 use Rattle.reachability.proofs.StateLaws.{Settled, among-grown, settled-grown, settled-hopeless}
 use Rattle.reachability.proofs.hopeless.Statement.{statement}

@@ -1,30 +1,35 @@
 -- `layers::facts::words` meets its contract. The invariant: the words of the facts below p are made, and 0 stands behind them. The measure is how many
 -- facts are left.
 use borrow.Author.Needs.{needs}
-use mathlib.Core.Path.{_≡_, ap, _∙_}
-use mathlib.Core.List.{[]}
+use mathlib.Core.Path.{_≡_, _∙_}
+use mathlib.Core.List.{List, []}
 use Prim.Native.Nat.{ℕ, _-_, _≤_}
 use native.Mathlib.Omega.{arith}
-use Rattle.sets.specs.Ranges.{listTo}
-use Rattle.jobfile.specs.Meaning.{padded}
+use lib.ListN.{getD}
+use lib.Seq.{getD-set-other}
+use Rattle.sets.proofs.Ranges.{zeros}
+use Rattle.sets.proofs.Filled.{Filled, filled-start, filled-turn}
 use Rattle.planning.specs.Rounds.{listedSteps}
 use Rattle.planning.specs.Layers.{mutexWord, mutexes, excluded}
 use Rattle.layers.specs.Meaning.{layer}
-use Rattle.layers.proofs.FactCode.{padded-start, padded-turn}
+use Rattle.layers.proofs.FactCode.{filled-padded}
 use Rattle.layers.proofs.facts.words.Statement.{statement}
 use Rattle.layers.proofs.facts.words.Tie as tie
 
+abbrev wordIn : List ℕ → List ℕ → ℕ → ℕ → ℕ → ℕ
+wordIn gives words members facts = mutexWord 32 facts (excluded 32 (listedSteps [] gives []) (layer members words))
+
 abbrev Inv-loop : tie.InvT-loop
-Inv-loop gives turned words members facts all₀ p₀ all p = (p ≤ 32) × (all ≡ padded 64 (listTo p (mutexWord 32 facts (excluded 32 (listedSteps [] gives []) (layer members words)))))
+Inv-loop gives turned words members facts all₀ p₀ all p = (p ≤ 32) × Filled 64 (wordIn gives words members facts) all p × ((k : ℕ) → p ≤ k → getD all k 0 ≡ 0)
 
 abbrev μ-loop : tie.MeasureT-loop
 μ-loop gives turned words members facts all₀ p₀ all p = 32 - p
 
 loop-holds : tie.Need-loop-holds Inv-loop μ-loop
-loop-holds c = (omega arith, padded-start 64 (mutexWord 32 (c .args .facts) (excluded 32 (listedSteps [] (c .args .gives .now) []) (layer (c .args .members) (c .args .words .now)))))
+loop-holds c = let a = c .args in (omega arith, filled-start 64 (wordIn (a .gives .now) (a .words .now) (a .members) (a .facts)), λ k l. zeros 64 k)
 
-word-of-requires : tie.Need-word-of-requires Inv-loop μ-loop
-word-of-requires c κs = search needs
+row-requires : tie.Need-row-requires Inv-loop μ-loop
+row-requires c κs = search needs
 
 mul-all : tie.Need-mul-all Inv-loop μ-loop
 mul-all c = search needs
@@ -42,16 +47,18 @@ loop-again : tie.Need-loop-again Inv-loop μ-loop
 loop-again c =
     let a = c .before .before .before .args in
     let l = c .before .before .loop in
-    let h = c .before .loop-test .taken in
-    (omega (arith, h), padded-turn 64 (mutexWord 32 (a .facts) (excluded 32 (listedSteps [] (a .gives .now) []) (layer (a .members) (a .words .now)))) (l .all) (l .p) (c .word-of .result) (omega (arith, h)) (l .inv .1) (c .word-of .ensures))
+    let h = c .before .loop-test .taken in (
+      omega (arith, h),
+      filled-turn 64 (wordIn (a .gives .now) (a .words .now) (a .members) (a .facts)) (l .all) (l .p) (c .row .result) (l .inv .1) (omega (arith, h)) (c .row .ensures),
+      λ k m. getD-set-other (l .all) (l .p) k (c .row .result) 0 (λ q. let z : ⊥ = omega arith in z) ∙ l .inv .2 k (omega arith),
+    )
 
 returns : tie.Need-returns Inv-loop μ-loop
 unfolding mutexes
 returns c =
     let a = c .before .before .args in
     let l = c .before .loop in
-    let e : l .p ≡ 32 = omega (arith, l .inv .0, c .loop-test .left) in
-    l .inv .1 ∙ ap (λ (m : ℕ). padded 64 (listTo m (mutexWord 32 (a .facts) (excluded 32 (listedSteps [] (a .gives .now) []) (layer (a .members) (a .words .now)))))) e
+    filled-padded 64 (wordIn (a .gives .now) (a .words .now) (a .members) (a .facts)) (l .all) (l .p) 32 (l .inv .1) (l .inv .2) (omega (arith, l .inv .0, c .loop-test .left))
 
 pub words-spec : {M : Type 1} → statement M
 words-spec =
@@ -60,7 +67,7 @@ words-spec =
     Inv-loop
     μ-loop
     loop-holds
-    word-of-requires
+    row-requires
     mul-all
     array-write-all
     add-p

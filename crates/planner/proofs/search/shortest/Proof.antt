@@ -6,7 +6,7 @@ use Prim.Native.Nat.{ℕ, _+_, _-_, _≤_, _<_}
 use native.Mathlib.Omega.{arith}
 use lib.ListN.{length, drop}
 use Rattle.sets.proofs.Bits.{bit-empty, part-refl}
-use Rattle.layers.specs.Meaning.{fittingIn}
+use Rattle.planning.specs.Meaning.{fittingIn}
 use Rattle.reachability.specs.States.{Hopeless}
 use Rattle.extraction.specs.Extraction.{graph, Back, Nogoods, Extracted}
 use Rattle.extraction.proofs.NogoodLaws.{empty-nogoods}

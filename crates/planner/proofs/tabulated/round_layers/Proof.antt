@@ -4,7 +4,8 @@ use mathlib.Core.Path.{_≡_}
 use Prim.Native.Nat.{_-_, _≤_}
 use native.Mathlib.Omega.{arith}
 use Rattle.planning.specs.Layers.{factLayer}
-use Rattle.layers.specs.Meaning.{layer, roomy, fittingIn}
+use Rattle.planning.specs.Meaning.{fittingIn}
+use Rattle.layers.specs.Meaning.{layer, roomy}
 use Rattle.layers.proofs.LayerCode.{vertices-drawn, needs-fit, layer-start, layer-round, layer-facts}
 use Rattle.planner.specs.Tabulated.{Laid}
 use Rattle.planner.proofs.LaidLaws.{laid-none, laid-turn, laid-end}

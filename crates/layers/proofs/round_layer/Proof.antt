@@ -1,10 +1,10 @@
 -- `layers::round_layer` meets its contract.
 use borrow.Author.Needs.{needs}
 use Prim.Native.Nat.{_-_}
-use Rattle.layers.specs.Meaning.{fittingIn}
+use Rattle.planning.specs.Meaning.{fittingIn}
 use Rattle.layers.proofs.LayerCode.{vertices-drawn, needs-fit, layer-round}
-use Rattle.expansion.proofs.round_layer.Statement.{statement}
-use Rattle.expansion.proofs.round_layer.Tie as tie
+use Rattle.layers.proofs.round_layer.Statement.{statement}
+use Rattle.layers.proofs.round_layer.Tie as tie
 
 with-keepers-requires : tie.Need-with-keepers-requires
 with-keepers-requires c κs = search needs

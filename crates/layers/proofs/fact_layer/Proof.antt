@@ -4,10 +4,11 @@ use mathlib.Core.Path.{_≡_, ap, _∙_}
 use Prim.Native.Nat.{ℕ, _-_, _≤_}
 use native.Mathlib.Omega.{arith}
 use Rattle.planning.specs.Layers.{factLayer}
-use Rattle.layers.specs.Meaning.{layer, roomy, fittingIn}
+use Rattle.planning.specs.Meaning.{fittingIn}
+use Rattle.layers.specs.Meaning.{layer, roomy}
 use Rattle.layers.proofs.LayerCode.{vertices-drawn, needs-fit, layer-start, layer-round, layer-facts}
-use Rattle.expansion.proofs.fact_layer.Statement.{statement}
-use Rattle.expansion.proofs.fact_layer.Tie as tie
+use Rattle.layers.proofs.fact_layer.Statement.{statement}
+use Rattle.layers.proofs.fact_layer.Tie as tie
 
 abbrev Inv-loop : tie.InvT-loop
 Inv-loop job k needs gives takes facts₀ i₀ facts i = (i ≤ k) × (layer (facts .members) (facts .words) ≡ roomy 64 (factLayer 32 (fittingIn job) i))
