@@ -4,8 +4,8 @@
 // own.
 ghost use Prim.Native.Nat.{_≤_};
 use calls::PlanAnswer;
-use show_puzzles::Puzzle;
 use reading::Refusal;
+use show_puzzles::Puzzle;
 use show_trials::Job;
 use show_trials::Step;
 use show_trials::rounds;
