@@ -193,7 +193,7 @@ class Beside:
     # The calls on a stated file, with arguments of every sort, each with each
 
     def faults(self, *found):
-        """Counts the calls with two faults or more, of which one has to be told."""
+        """Counts the calls with two faults or more: only the one with the lowest number is told."""
         self.tally["two faults"] += sum(found) > 1
 
     def choice_in_full(self, file):
