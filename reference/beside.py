@@ -3,30 +3,33 @@
 
     beside.py LIBRARY [--fault N]
 
-It takes the examples of docs/RULES.md, those without a star first, then all small files of a sort, drawn ones, wide ones, at
-the edge of the words, and damaged ones: cut at every place, with single bytes changed, lengthened, over their limits, with
-forbidden bits; and some whose plan is long looked for. The same files come in every run. A difference is printed, and ends it with status 1; otherwise it prints how
-much was compared, and what of it mattered. --fault makes the second program err on purpose (FAULTS in rules.py): then a
-difference has to be found.
+It takes the files that are stated one by one, the examples of docs/RULES.md among them, with arguments of every sort; then all
+small files of a sort, drawn ones, wide ones, at the edge of the words, and damaged ones: cut at every place, with single bytes
+changed, lengthened, over their limits, with forbidden bits; and some whose plan is long looked for. The same files come in
+every run. A difference is printed, and ends it with status 1; otherwise it prints how much was compared, and what of it
+mattered. --fault makes the second program err on purpose (FAULTS in rules.py): then a difference has to be found.
 """
 
 import argparse
 import random
 import sys
 from collections import Counter
+from itertools import product
 
 import rules
-from calls import B, NOTHING
-from drawn import damaged, drawn_choice, drawn_fitting, drawn_name, over_limits, small_choices, small_fittings, walk, wide_choice
-from layers import G, H
-from layers import drawn as full_fitting
+from drawn import damaged, drawn_choice, drawn_fitting, drawn_name, full_fitting, over_limits
+from drawn import small_choices, small_fittings, walk, wide_choice
 from library import Library, slices
-from long import LONG
-from reader import BASES, CHOICE, FITTING, A, Refused, counts, written
+from long import LONG as LONG_SEARCHES
+from reader import CHOICE, CHOICES, FITTING, FITTINGS, LONG, NOTHING, A, B, F, G, H, M, N, Refused, counts, written
 from rules import number, of
 
 MARK = {1: 0xA5, 4: 0xA5A5A5A5, 8: 0xA5A5A5A5A5A5A5A5}
 FULL = 2**64 - 1
+
+# What is asked of the stated files. Names and goals that some of them have, and such that none has.
+NAMES = [b"", b"a", b"b", b"x", b"yz", b"cut", b"cu", b"cuts", LONG, LONG[:-1], LONG + b"y"]
+GOALS = [[], [0], [1], [3], [5], [7], [8], [1, 7], [4, 5, 1], [3, 7, 9, 0]]
 
 
 class Differ(Exception):
@@ -35,6 +38,15 @@ class Differ(Exception):
 
 def in_short(argument):
     return argument.hex() if isinstance(argument, bytes) else str(argument)
+
+
+def wrong(test, *arguments):
+    """Whether a test of rules.py turns these arguments down."""
+    try:
+        test(*arguments)
+    except Refused:
+        return True
+    return False
 
 
 # What is asked
@@ -91,6 +103,7 @@ class Beside:
         buffer = [MARK[width]] * count
         found, expected = self.answer(lambda pair: (number(pair[0]), 0), rules.layer, file, sort, k, buffer)
         self.tally["layers with mutexes"] += bool(found) and any(found[1][:size])
+        self.tally[f"{sort} layers with {size - 1}"] += bool(found) and size - 1 in found[0]
         self.same(f"{sort}_layer", (file, k, (width, buffer)), expected, found and found[1])
 
     def plan(self, file, count):
@@ -177,32 +190,100 @@ class Beside:
         for wanted in (draw.choice([b"", *names]), drawn_name(draw), b"n" * 33):
             self.find(file, wanted)
 
+    # The calls on a stated file, with arguments of every sort, each with each
+
+    def faults(self, *found):
+        """Counts the calls with two faults or more: only the one with the lowest number is told."""
+        self.tally["two faults"] += sum(found) > 1
+
+    def choice_in_full(self, file):
+        """Every live set, goal and floor, with groups that are right and such that are not; and files that differ in a bit."""
+        job = rules.read(file, (CHOICE,))
+        n, own = len(job.articles), rules.own_groups(job)
+        for count in range(n + 2):
+            self.partition(file, count)
+        renamed = [(group - 1) % n for group in own]
+        for groups in (own, [*renamed, 9], list(range(n)), [0] * n, own[:-1], [n, *[0] * (n - 1)]):
+            false = wrong(rules.check_groups, job, groups)
+            for live, goal in product([*range(2**n + 1), FULL], [*range(2 ** (job.wishes + 1)), FULL]):
+                self.faults(false, live >= 2**n, wrong(rules.check_goal, job, of(goal), 0))
+                self.filter_pass(file, groups, live, goal)
+            for goals, floor in product(GOALS, [*range(2**n + 1), FULL]):
+                self.faults(false, *(wrong(rules.check_goal, job, of(goal), 0) for goal in goals))
+                self.choose(file, groups, goals, floor)
+        for place, bit in product(range(len(file)), range(8)):
+            self.compare(file, file[:place] + bytes([file[place] ^ 1 << bit]) + file[place + 1 :])
+
+    def layers_in_full(self, file):
+        """Every layer, and some that there are not, in buffers that are too short, long enough, and longer."""
+        horizon = rules.read(file, (FITTING,)).horizon
+        for sort, lowest, size in (("fact", 0, 32), ("round", 1, 64)):
+            for k, count in product([*range(horizon + 2), 2**32, FULL], (0, 1, size - 1, size, size + 1)):
+                self.faults(not lowest <= k <= horizon, count < size)
+                self.layer(file, sort, k, count)
+
+    def fitting_in_full(self, file):
+        """Every layer, and the plan in so many words. Where there are few facts, every start and goal as well: by these the
+        layers tell what each step needs, gives and takes."""
+        job = rules.read(file, (FITTING,))
+        self.layers_in_full(file)
+        for count in range(job.horizon + 2):
+            self.plan(file, count)
+        for start, goal in product(range(2**job.facts), repeat=2) if job.facts <= 4 else ():
+            other = written(job._replace(start=of(start), goal=of(goal)))
+            self.plan(other, job.horizon)
+            for k in range(job.horizon + 1):
+                self.layer(other, "fact", k, 32)
+                self.layer(other, "round", k, 64)
+
+    def refused(self, file):
+        """What is wrong with a file is told before what is wrong with the arguments."""
+        self.partition(file, 2)
+        self.filter_pass(file, [0], FULL, 0)
+        self.choose(file, [0], [0], FULL)
+        self.layer(file, "fact", 4, 1)
+        self.layer(file, "round", 4, 1)
+        self.tally["two faults"] += 5
+
+    def names_in_full(self, file):
+        for at in (*range(66), 2**32, 2**63, FULL):
+            self.name(file, at)
+        for wanted in NAMES:
+            self.find(file, wanted)
+
 
 # The run
 
 
 def stated(beside):
-    """The examples without a star, by both programs, and with what the rules say of them."""
-    too_many = bytes([CHOICE, 65, 0]) + bytes(8)
+    """The files that are stated one by one, and some with a fault. Of the examples without a star, also what the rules say."""
+    cut, longer, too_many = A[:-1], A + b"\0", bytes([CHOICE, 65, 0]) + bytes(8)
     if len(A) != 46:
         raise Differ(f"A has {len(A)} bytes")
-    for file, reason, place in ((A[:-1], 2, 45), (A + b"\0", 8, 46), (too_many, 3, 1)):
+    for file, reason, place in ((cut, 2, 45), (longer, 8, 46), (too_many, 3, 1)):
         beside.same("partition", (file, (1, [])), (reason, (place, 0)))
+    faulty = [cut, longer, too_many, b"", b"B", N[:-1], F[:-1], M[:-1]]
+    for file in CHOICES:
+        beside.choice_in_full(file)
+    for file in FITTINGS:
+        beside.fitting_in_full(file)
+    beside.layers_in_full(written(full_fitting()))
+    for file in faulty:
+        beside.refused(file)
+    for file in CHOICES + FITTINGS + faulty:
         beside.reading(file)
+        beside.names_in_full(file)
+        for other in CHOICES + FITTINGS + faulty:
+            beside.compare(file, other)
+    beside.tally["calls on stated files"] = beside.tally["comparisons"]
 
 
 def run(beside):
     draw = random.Random(20261115)
     stated(beside)
-    choices = [*(file for file in BASES.values() if file[0] == CHOICE), B, NOTHING]
-    fittings = [*(file for file in BASES.values() if file[0] == FITTING), written(G), written(H)]
-    for file in choices + fittings:
-        beside.reading(file)
-        for other in choices + fittings:
-            beside.compare(file, other)
-    for file in [*choices, *small_choices(), *(written(drawn_choice(draw)) for _ in range(700))]:
+    for file in [A, N, B, NOTHING, *small_choices(), *(written(drawn_choice(draw)) for _ in range(700))]:
         beside.choice(file, draw)
-    for file in [*fittings, *small_fittings(), *(written(drawn_fitting(draw)) for _ in range(1500))]:
+    for file in [F, M, G, H, *small_fittings(), *(written(drawn_fitting(draw)) for _ in range(1500))]:
         beside.fitting(file, draw)
     for _ in range(400):
         beside.fitting(written(walk(draw, draw.randrange(2, 12), draw.randrange(17))), draw)
@@ -211,14 +292,13 @@ def run(beside):
         beside.fitting(written(walk(draw, 32, 16)), draw)
     for _ in range(300):
         beside.plan(written(walk(draw, 32, 16)), 16)
-    beside.layers(written(full_fitting()), full_fitting(), draw)
     for file in over_limits():
         beside.reading(file)
     for _ in range(25):
         for job in (drawn_choice(draw), drawn_fitting(draw)):
             for file in damaged(written(job), draw):
                 beside.reading(file)
-    for file in LONG.values():
+    for file in LONG_SEARCHES.values():
         beside.plan(file, 16)
         beside.tally["long searches"] += 1
 

@@ -3,9 +3,9 @@
 It is no program, and shares nothing with crates/. A draw is a random.Random of a fixed seed.
 """
 
-from itertools import product
+from itertools import islice, product
 
-from reader import CHOICE, FITTING, Article, Choice, Fitting, Step, written
+from reader import CHOICE, FITTING, Article, Choice, Fitting, Step, step, written
 
 
 def some(draw, bound, chance):
@@ -55,6 +55,25 @@ def walk(draw, n, horizon):
     return Fitting(n, horizon, {place[0], place[1]}, {place[-1], draw.choice([place[-1], *place])}, steps)
 
 
+def xorshift(x):
+    """Marsaglia's xorshift of 64 bits."""
+    while True:
+        x ^= x << 13 & (2**64 - 1)
+        x ^= x >> 7
+        x ^= x << 17 & (2**64 - 1)
+        yield x
+
+
+def full_fitting():
+    """As many steps, facts and rounds as a file can have. Each step comes of one number: its lowest bits, by fives, are the two
+    facts needed, the three given, the four taken."""
+    steps = []
+    for x in islice(xorshift(88172645463331289), 32):
+        facts = [x >> 5 * i & 31 for i in range(9)]
+        steps.append(step(facts[:2], facts[2:5], facts[5:]))
+    return Fitting(32, 16, {0, 1, 2}, {29, 30, 31}, steps)
+
+
 def small_choices():
     """All choice files of two articles and two wishes without names."""
     subsets = [set(), {0}, {1}, {0, 1}]
@@ -80,6 +99,7 @@ def damaged(file, draw):
 
 
 def over_limits():
-    for head in ([CHOICE, 65, 0], [CHOICE, 64, 65], [FITTING, 33, 0, 0], [FITTING, 32, 33, 0], [FITTING, 0, 32, 17]):
+    """Files that end with a count over its limit, and the same with bytes behind it."""
+    for head in ([CHOICE, 65], [CHOICE, 64, 65], [FITTING, 33], [FITTING, 32, 33], [FITTING, 0, 32, 17]):
         yield bytes(head)
         yield bytes(head) + bytes(200)

@@ -13,11 +13,9 @@ import subprocess
 import sys
 from collections import Counter
 
-from calls import B, NOTHING
 from drawn import drawn_choice, drawn_fitting, over_limits, small_choices, small_fittings, walk, wide_choice
-from layers import G, H
 from plans import like_f, row
-from reader import BASES, CHOICE, FITTING, Article, Choice, Refused, counts, written
+from reader import BASES, CHOICE, FITTING, NOTHING, Article, B, Choice, G, H, Refused, counts, written
 from rules import is_plan, offer, plan, shown
 
 # what 64 articles, 64 wishes and names of 32 bytes come to
@@ -46,7 +44,7 @@ def files():
     """The examples, whole, cut, lengthened and with each byte changed in two ways; jobs at the edges; long input; all small
     files of a sort, and drawn ones."""
     yield "n 65", bytes([CHOICE, 65, 0]) + bytes(8)
-    bases = {**BASES, "B": B, "G": written(G), "no order": NOTHING}
+    bases = {**BASES, "B": B, "G": G, "no order": NOTHING}
     for label, file in bases.items():
         yield label, file
         for n in range(len(file)):
@@ -55,7 +53,7 @@ def files():
                 yield f"{label} with byte {n} changed by {bit}", file[:n] + bytes([file[n] ^ bit]) + file[n + 1 :]
         yield f"{label} and a byte", file + b"\0"
     yield "none of four", written(Choice(4, {0, 1, 2, 3}, [Article({0, 1}, set(), b""), Article({2, 3}, {0}, b"")]))
-    yield "H", written(H)
+    yield "H", H
     yield "a row of 12", written(row(12))
     yield "nothing to do", written(like_f(0, {0}, {0}))
     yield "no horizon", written(like_f(0, {0}, {1}))

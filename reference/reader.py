@@ -1,4 +1,4 @@
-"""Writes and reads job files, from docs/RULES.md alone, and has the files that several programs here show.
+"""Writes and reads job files, from docs/RULES.md alone, and has the files that are stated one by one.
 
 It is no program, and shares nothing with crates/.
 """
@@ -130,10 +130,21 @@ def read(file, kinds=(CHOICE, FITTING)):
     return Reader(file).job(kinds)
 
 
-# The files that are shown
+# The files that are stated one by one
+
+
+def step(needs, gives, takes, name=b""):
+    return Step(set(needs), set(gives), set(takes), name)
+
 
 ARTICLES = [Article({0}, set(), b""), Article({1}, {0}, b""), Article({0, 1}, set(), b"")]
 A = written(Choice(2, {0, 1}, ARTICLES))
+TWIN = written(Choice(2, {0, 1}, [a._replace(name=given) for a, given in zip(ARTICLES, (b"x", b"", b"yz"))]))
+OTHER_ORDER = written(Choice(2, {0}, ARTICLES))
+
+B = written(Choice(3, {0, 1, 2}, [Article({0}, set(), b""), Article({0, 1}, {0}, b""), Article({2}, set(), b"")]))
+
+NOTHING = written(Choice(0, set(), []))
 
 LONG = b"a name of exactly two and thirty"
 N = written(
@@ -156,6 +167,8 @@ F = bytes.fromhex(
     "03 02 00 00 00 08 00 00 00"
 )
 
+G = written(Fitting(2, 2, set(), {0, 1}, [step([], [0], []), step([], [1], [0])]))
+
 M = written(
     Fitting(
         4,
@@ -163,15 +176,40 @@ M = written(
         {0},
         {1, 3},
         [
-            Step(set(), {1}, {0, 2}, b"cut"),
-            Step({1}, {3}, set(), b"b"),
-            Step({0, 1}, set(), {1}, b"cut"),
-            Step(set(), set(), set(), b""),
+            step([], [1], [0, 2], b"cut"),
+            step([1], [3], [], b"b"),
+            step([0, 1], [], [1], b"cut"),
+            step([], [], []),
         ],
     )
 )
 
-BASES = {"A": A, "N": N, "F": F, "M": M}
+# Step 4 takes the facts 6 and 7 and gives both back; only 6 held before. It needs the facts 1 and 2, which are mutex in fact
+# layer 2 and not in 3. Step 5 takes fact 2, which it does not need.
+H = written(
+    Fitting(
+        10,
+        6,
+        {0, 3, 6},
+        {5, 8, 9},
+        [
+            step([0], [1], [0]),
+            step([1], [0, 2], [1]),
+            step([3], [4], [3]),
+            step([4], [3, 5], [4]),
+            step([1, 2, 3, 6], [6, 7], [6, 7]),
+            step([5, 7], [8], [2]),
+            step([0, 8], [9], []),
+            step([1, 4], [0], []),
+        ],
+    )
+)
+
+NO_STEP = written(Fitting(2, 1, {1}, {0, 1}, []))
+
+CHOICES = [A, N, B, NOTHING, TWIN, OTHER_ORDER]
+FITTINGS = [F, M, G, H, NO_STEP]
+BASES = {"A": A, "N": N, "F": F, "M": M}  # those that are damaged in every place
 
 
 def outcome(action, *arguments):

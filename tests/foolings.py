@@ -262,7 +262,7 @@ def with_promises(folder):
 def declared_names(folder):
     with_promises(folder)
     page, laws = folder / "docs" / "TRACE.md", folder / "crates" / "jobfile" / "proofs" / "Theorems.antt"
-    code, specs = folder / "crates" / "states" / "src" / "lib.rt", folder / "crates" / "states" / "specs"
+    code, specs = folder / "crates" / "reachability" / "src" / "lib.rt", folder / "crates" / "reachability" / "specs"
     passes("the names", declared.traced, folder)
     for label, path, old, new, words in (
         ("a theorem in a comment", laws, "pub one-writing :", "-- pub one-writing :", "one-writing (theorem)"),

@@ -161,7 +161,7 @@ def documents():
 def scripts(root, programs):
     """The scripts that print what a program has to print, by the program. Each program has one, and what they share is there."""
     script_of = {name: name.removeprefix("show_") for name in programs}
-    wanted = {*script_of.values(), "beside", "drawn", "library", "long", "reader", "rules"}
+    wanted = {*script_of.values(), "beside", "drawn", "layers", "library", "long", "reader", "rules"}
     found = {path.stem for path in (root / "reference").glob("*.py")}
     demand(found == wanted, f"reference/ lacks {sorted(wanted - found)}, and has {sorted(found - wanted)} beyond what is known")
     return {name: root / "reference" / f"{stem}.py" for name, stem in script_of.items() if stem != name}

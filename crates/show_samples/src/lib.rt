@@ -1,6 +1,5 @@
-// The files that the programs show, whether a file is accepted, and how a refusal is printed.
+// The files that a program damages, their first bytes, and whether a file is accepted.
 use jobfile::Verdict;
-use reading::Refusal;
 
 // The first n bytes of a file.
 pub fn first(file: &[u8], n: usize) -> &[u8] {
@@ -20,35 +19,12 @@ pub fn verdict(file: &[u8]) -> Verdict {
     read.verdict
 }
 
-// The number of the reason and the place, and the end of the line.
-pub fn say_refusal(refusal: Refusal) {
-    let reason = refusal.reason;
-    show_print::say_number(b"refused ", reading::number(reason) as u64);
-    show_print::say_number(b" at ", refusal.place as u64);
-    show_print::say(b"\n");
-}
-
 // Case A of the rules.
 pub fn case_a() -> [u8; 46] {
     *b"\x43\x03\x02\x03\x00\x00\x00\x00\x00\x00\x00\
         \x01\x01\x00\x00\x00\x00\x00\x00\x00\
         \x03\x02\x00\x00\x00\x00\x00\x00\x00\x01\x00\x00\x00\x00\x00\x00\x00\
         \x01\x03\x00\x00\x00\x00\x00\x00\x00"
-}
-
-// Case A with the names "x" and "yz" for the articles 0 and 2.
-pub fn twin_of_a() -> [u8; 51] {
-    *b"\x43\x03\x02\x03\x00\x00\x00\x00\x00\x00\x00\
-        \x05\x01\x00\x00\x00\x00\x00\x00\x00\x01x\
-        \x03\x02\x00\x00\x00\x00\x00\x00\x00\x01\x00\x00\x00\x00\x00\x00\x00\
-        \x05\x03\x00\x00\x00\x00\x00\x00\x00\x02yz"
-}
-
-// Case A with the order {0}.
-pub fn other_order() -> [u8; 46] {
-    let mut file = case_a();
-    file[3] = 1;
-    file
 }
 
 // A choice file with names of 1 and of 32 bytes, one of them given twice.
@@ -77,15 +53,4 @@ pub fn case_m() -> [u8; 50] {
         \x0B\x02\x00\x00\x00\x08\x00\x00\x00\x01b\
         \x0D\x03\x00\x00\x00\x02\x00\x00\x00\x03cut\
         \x00"
-}
-
-// The bytes of case A and a zero behind them.
-pub fn one_more(a: [u8; 46]) -> [u8; 47] {
-    let mut more = [0u8; 47];
-    let mut i: usize = 0;
-    while i < 46 {
-        more[i] = a[i];
-        i += 1;
-    }
-    more
 }
