@@ -6,10 +6,10 @@ the last landing, a little less where a machine may see fewer.
 
 # What stands in the repository (`counts`).
 THERE = {
-    "crates": 33,
+    "crates": 31,
     "programs": 6,
     "must-fail edits": 174,
-    "crates with must-fail edits": 24,
+    "crates with must-fail edits": 22,
     "rows of the proved table": 81,
     "theorems of the demands": 45,
     "functions of the header": 10,
@@ -28,7 +28,7 @@ CHECKS = {
     "assumptions_as_stated": 1 + THERE["programs"],
     "trace": 850,
     "promises": THERE["theorems of the demands"],
-    "documents": 89,
+    "documents": 430,
     "second_program": 633,
     "kitchen_prints": 2_800,
     "small_stack": 47,
