@@ -18,6 +18,7 @@ mod least;
 use jobfile::ReadChoice;
 use network::partition;
 use network::tables;
+use sets::ArticleSet;
 use sets::table;
 use sets::word;
 
@@ -53,7 +54,7 @@ pub fn smallest(
         allowed,
         need,
         floor,
-        64,
+        ArticleSet::CAPACITY,
         0,
         false,
     )
@@ -135,7 +136,7 @@ pub fn choose_alone(
     requires { ⌜ n ≤ 64 ⌝ }
     ensures { λ r. ⌜ r ≡ unaided (listed n (now (wishes .entry)) (now (clashes .entry))) order floor ⌝ }
 {
-    let mut groups: [u8; 64] = [0; 64];
+    let mut groups: [u8; ArticleSet::CAPACITY] = [0; ArticleSet::CAPACITY];
     partition::partition(clashes, n, &mut groups);
     let goals = [order];
     if order == 0 {

@@ -12,6 +12,12 @@ mod nogoods;
 use choice::Found;
 use sets::word;
 
+// The vertex of step 0: the vertices below it are the keepers of the facts.
+const FIRST_STEP: usize = 32;
+
+// A refuted set of this size or smaller is not made smaller.
+const FEW: u32 = 3;
+
 // A plan, or facts that are refuted.
 pub enum Outcome {
     Made,
@@ -22,7 +28,7 @@ pub enum Outcome {
 fn steps_of(selection: u64) -> u32
     ensures { λ r. ⌜ r ≡ selection / 2 ^ 32 ⌝ }
 {
-    (selection >> 32) as u32
+    (selection >> FIRST_STEP) as u32
 }
 
 // Whether the box is the whole: what is refuted in it is refuted altogether.
@@ -35,12 +41,12 @@ fn whole(may: u64, all: u64, must: u64) -> bool
     must == 0
 }
 
-// The facts that may still be dropped: of those left, those that are still refuted; none where three
+// The facts that may still be dropped: of those left, those that are still refuted; none where `FEW`
 // or fewer are refuted.
 fn droppable(left: u64, refuted: u64) -> u64
     ensures { λ r. ⌜ (r ⊆ left) × (r ⊆ refuted) ⌝ }
 {
-    if word::count(refuted) <= 3 {
+    if word::count(refuted) <= FEW {
         return 0;
     }
     left & refuted

@@ -4,6 +4,12 @@ ghost use Rattle.extraction.specs.Extraction.{Noted, StoredIf};
 use crate::Outcome;
 use sets::word;
 
+// A search counts as long while its last nogood is at this place of the table or after it.
+const MANY: u64 = 1024;
+
+// An entry is a count of rounds times this, plus a set of facts.
+const ROUND: u64 = 0x1_0000_0000;
+
 // Where the last was stored; 0 where none was.
 pub fn stored(table: &[u64]) -> u64 {
     if table.len() == 0 {
@@ -19,7 +25,7 @@ pub fn many(table: &[u64], before: u64) -> bool {
     if last == before {
         return false;
     }
-    1024 <= last
+    MANY <= last
 }
 
 // An entry for k rounds or more whose facts are all among these. Nothing is looked up where `on` is
@@ -36,9 +42,9 @@ pub fn lookup(table: &[u64], k: usize, facts: u64, on: bool) -> Outcome
         if word == 0 {
             return Outcome::Made;
         }
-        let r = (word >> 32) as usize;
+        let r = (word / ROUND) as usize;
         if k <= r {
-            let c = word % 0x1_0000_0000;
+            let c = word % ROUND;
             if word::without(c, facts) == 0 {
                 return Outcome::Refuted(c);
             }
@@ -75,5 +81,5 @@ pub fn store(table: &mut [u64], k: usize, facts: u64, on: bool)
     let last = table[0];
     let at = after(last, n);
     table[0] = at as u64;
-    table[at] = (k as u64) * 0x1_0000_0000 + facts;
+    table[at] = (k as u64) * ROUND + facts;
 }

@@ -7,8 +7,15 @@ ghost use Rattle.layers.specs.Meaning.{fittingIn};
 ghost use Rattle.reachability.specs.States.{Hopeless};
 ghost use Rattle.planner.specs.Tabulated.{Copied, Unplanned, Searched};
 use crate::Planned;
+use crate::ROUNDS;
 use extraction::Outcome;
 use jobfile::ReadFitting;
+
+// The words of the table of nogoods: the place of the last one, and 8,191 nogoods.
+const TABLE: usize = 8192;
+
+// As the place of the last nogood passes this one, the states are listed.
+const LONG: u64 = 64;
 
 // Copies the first k words.
 fn copy(out: &mut [u32], words: &[u32; 16], k: usize)
@@ -28,8 +35,8 @@ fn stuck(job: ReadFitting, before: u64, stored: u64) -> bool
     requires { ⌜ job .steps ≤ 64 ⌝ }
     ensures { λ r. ⌜ Hopeless (fittingIn job) r ⌝ }
 {
-    if before < 64 {
-        if 64 <= stored {
+    if before < LONG {
+        if LONG <= stored {
             return reachability::hopeless(job);
         }
     }
@@ -55,8 +62,8 @@ pub fn shortest(
     requires { ⌜ (job .steps ≤ 64) × Unplanned (fittingIn job) (graph (now needs) (now gives) (now members) (now words) start all) (length (now members)) goal ⌝ }
     ensures { λ r. ⌜ Searched (graph (now (needs .entry)) (now (gives .entry)) (now (members .entry)) (now (words .entry)) start all) (length (now (members .entry))) goal (now (out .entry)) (now (out .exit)) r ⌝ }
 {
-    let mut made: [u32; 16] = [0; 16];
-    let mut table: [u64; 8192] = [0; 8192];
+    let mut made: [u32; ROUNDS] = [0; ROUNDS];
+    let mut table: [u64; TABLE] = [0; TABLE];
     let mut k: usize = 0;
     while k <= members.len() {
         let before = table[0];
