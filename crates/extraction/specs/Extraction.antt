@@ -12,6 +12,8 @@ use Rattle.network.specs.Tables.{Tabled}
 use Rattle.supports.specs.Questions.{rowOf}
 use Rattle.extraction.specs.declared.Outcome.{Outcome}
 use Rattle.extraction.specs.declared.Outcome.the-variants as Outcome
+use Rattle.extraction.specs.declared.nogoods.Known.{Known}
+use Rattle.extraction.specs.declared.nogoods.Known.the-variants as Known
 
 -- the facts at the start and all facts; what each of 64 vertices needs and gives; of each round layer its vertices and 64 mutex words
 pub record Graph : Type 0 where
@@ -64,9 +66,9 @@ unfoldable pub Nogoods : Graph → List ℕ → Type 0
 Nogoods T table = (i : ℕ) → 0 < i → 0 < getD table i 0 / 2 ^ 32 → (getD table i 0 / 2 ^ 32 ≤ length (T .members)) × (Back T (getD table i 0 / 2 ^ 32) (getD table i 0 % 2 ^ 32) → ⊥)
 
 -- an entry for k rounds or more whose set is a part of g, or nothing
-abbrev pub Noted : List ℕ → ℕ → ℕ → Outcome → Type 0
-Noted table k g Outcome.Made = Unit {0}
-Noted table k g (Outcome.Refuted c) = (c ⊆ g) × ((i : ℕ) × (0 < i) × (k ≤ getD table i 0 / 2 ^ 32) × (c ≡ getD table i 0 % 2 ^ 32))
+abbrev pub Noted : List ℕ → ℕ → ℕ → Known → Type 0
+Noted table k g Known.Nothing = Unit {0}
+Noted table k g (Known.Nogood c) = (c ⊆ g) × ((i : ℕ) × (0 < i) × (k ≤ getD table i 0 / 2 ^ 32) × (c ≡ getD table i 0 % 2 ^ 32))
 
 -- each entry of the new table is one of the old, or the pair of k and e
 abbrev pub Stored : ℕ → ℕ → List ℕ → List ℕ → Type 0

@@ -10,6 +10,7 @@ ghost use Rattle.extraction.specs.Extraction.{graph, Fine, Nogoods, Unre
 mod nogoods;
 
 use choice::Found;
+use nogoods::Known;
 use sets::word;
 
 // The vertex of step 0: the vertices below it are the keepers of the facts.
@@ -140,7 +141,7 @@ pub fn extract(
     }
     let first = whole(may, all, must);
     let seen = nogoods::lookup(table, k, goal, first);
-    if let Outcome::Refuted(c) = seen {
+    if let Known::Nogood(c) = seen {
         return Outcome::Refuted(c | why);
     }
     let j = k - 1;

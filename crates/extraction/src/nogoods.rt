@@ -1,7 +1,6 @@
 // The table of nogoods: facts that so many rounds do not reach. Entry 0 says where the last was stored.
 ghost use Prim.Native.Nat.{_^_, _≤_, _<_};
 ghost use Rattle.extraction.specs.Extraction.{Noted, StoredIf};
-use crate::Outcome;
 use sets::word;
 
 // A search counts as long while its last nogood is at this place of the table or after it.
@@ -9,6 +8,12 @@ const MANY: u64 = 1024;
 
 // An entry is a count of rounds times this, plus a set of facts.
 const ROUND: u64 = 0x1_0000_0000;
+
+// What the table knows of some facts: a part of them that is a nogood, or nothing.
+pub enum Known {
+    Nogood(u64),
+    Nothing,
+}
 
 // Where the last was stored; 0 where none was.
 pub fn stored(table: &[u64]) -> u64 {
@@ -30,28 +35,28 @@ pub fn many(table: &[u64], before: u64) -> bool {
 
 // An entry for k rounds or more whose facts are all among these. Nothing is looked up where `on` is
 // false.
-pub fn lookup(table: &[u64], k: usize, facts: u64, on: bool) -> Outcome
+pub fn lookup(table: &[u64], k: usize, facts: u64, on: bool) -> Known
     ensures { λ r. ⌜ Noted (now (table .entry)) k facts r ⌝ }
 {
     if !on {
-        return Outcome::Made;
+        return Known::Nothing;
     }
     let mut i: usize = 1;
     while i < table.len() {
         let word = table[i];
         if word == 0 {
-            return Outcome::Made;
+            return Known::Nothing;
         }
         let r = (word / ROUND) as usize;
         if k <= r {
             let c = word % ROUND;
             if word::without(c, facts) == 0 {
-                return Outcome::Refuted(c);
+                return Known::Nogood(c);
             }
         }
         i += 1;
     }
-    Outcome::Made
+    Known::Nothing
 }
 
 // The place after the last, from 1 to n - 1 and from the front again.
