@@ -42,8 +42,8 @@ fn whole(may: u64, all: u64, must: u64) -> bool
     must == 0
 }
 
-// The facts that may still be dropped: of those left, those that are still refuted; none where `FEW`
-// or fewer are refuted.
+// The facts that may still be dropped: of those left, those that are still refuted; none if `FEW` or
+// fewer are refuted.
 fn droppable(left: u64, refuted: u64) -> u64
     ensures { λ r. ⌜ (r ⊆ left) × (r ⊆ refuted) ⌝ }
 {
@@ -53,9 +53,18 @@ fn droppable(left: u64, refuted: u64) -> u64
     left & refuted
 }
 
-// Of facts that j rounds do not reach, some that they do not reach either: one after the other is
-// dropped where that can be. It is worth its searches only where they are newly refuted, after the
-// nogoods `before`, and many are stored.
+// A smaller explanation, by deletion: facts that j rounds do not reach are made fewer. `refuted` are
+// these facts, and `before` is the place of the last nogood before they were refuted; the other
+// arguments are those of `extract`.
+//
+// One fact after the other is left out, and `extract` is asked whether j rounds reach the others. If it
+// refutes them, the facts by which it does are taken in their place. That ends with `FEW` facts or
+// fewer, or once each of those left was tried. It pays only in a long search (`many`), and only if the
+// facts are newly refuted: a nogood was stored since `before`. Otherwise `refuted` is the answer.
+//
+// What falls in the loop is the set of the facts that are still to be tried, as a number; the calls are
+// for j rounds, one less than those of the caller. The answer is a part of `refuted` that j rounds do
+// not reach.
 fn dropped(
     needs: &[u64; 64],
     gives: &[u64; 64],
@@ -108,10 +117,18 @@ fn dropped(
     least
 }
 
-// A plan of k rounds for the goal, in the words 0 to k - 1. Or facts of the goal, with those of `why`,
-// that no selection of round layer k can be worked back for whose needs lie in `may` and include
-// `must`. Where the needs of a selection are refuted by the facts c, every other selection either needs
-// all of c, too, and is refuted with it, or lacks one of them, and lies in a smaller box.
+// Graphplan's backward extraction, with nogoods. `needs`, `gives` and `carriers` are the tables of the
+// vertices, `members` and `words` the vertices and mutex words of each round layer, `start` has the
+// facts at the start, `plan` gets the steps of each round, and `table` has the nogoods.
+//
+// The needs of a selection of round layer k for the goal are the goal of the round before. If they are
+// refuted there by facts c, every other selection either needs all of c and is refuted with it, or lacks
+// one of them. So those that do not need the first fact of c are tried next, then those that need the
+// first and not the second, and so on: a box has the selections whose needs lie in `may` and include
+// `must`. `why` has the facts by which the boxes before this one were refuted.
+//
+// What falls is k, and for one k `may`, as a number. The answer is a plan, in the words 0 to k - 1; or
+// facts of the goal, with those of `why`, for which no selection in the box leads back to the start.
 pub fn extract(
     needs: &[u64; 64],
     gives: &[u64; 64],

@@ -1,4 +1,11 @@
-// The table of nogoods: facts that so many rounds do not reach. Entry 0 says where the last was stored.
+// The table of nogoods, Graphplan's memoized goals: sets of facts that a count of rounds does not reach.
+//
+// Entry 0 is the place of the last nogood, and 0 if there is none. The entries from 1 on are a ring: the
+// place after the last entry is 1 again, so that a full table loses its oldest nogood. An entry is a
+// count of rounds times 2^32, plus a set of facts: no plan of that many rounds reaches them all. Then
+// none of fewer rounds does, and none reaches a set that has all of these facts. An entry of 0 is free.
+//
+// What the table forgets costs time and changes no answer.
 ghost use Prim.Native.Nat.{_^_, _≤_, _<_};
 ghost use Rattle.extraction.specs.Extraction.{Noted, StoredIf};
 use sets::word;
@@ -15,7 +22,7 @@ pub enum Known {
     Nothing,
 }
 
-// Where the last was stored; 0 where none was.
+// The place of the last nogood; 0 if there is none.
 pub fn stored(table: &[u64]) -> u64 {
     if table.len() == 0 {
         return 0;
@@ -33,8 +40,8 @@ pub fn many(table: &[u64], before: u64) -> bool {
     MANY <= last
 }
 
-// An entry for k rounds or more whose facts are all among these. Nothing is looked up where `on` is
-// false.
+// The first nogood for k rounds or more whose facts are all among these. Nothing is looked up if `on`
+// is false.
 pub fn lookup(table: &[u64], k: usize, facts: u64, on: bool) -> Known
     ensures { λ r. ⌜ Noted (now (table .entry)) k facts r ⌝ }
 {
@@ -70,8 +77,8 @@ fn after(last: u64, n: usize) -> usize
     1
 }
 
-// Enters that k rounds do not reach these facts, over the oldest entry where the table is full. Nothing
-// is entered where `on` is false.
+// Enters that k rounds do not reach these facts, over the oldest entry if the table is full. Nothing is
+// entered if `on` is false.
 pub fn store(table: &mut [u64], k: usize, facts: u64, on: bool)
     requires { ⌜ (k ≤ 16) × (facts < 2 ^ 32) ⌝ }
     ensures { λ r. ⌜ StoredIf on k facts (now (table .entry)) (now (table .exit)) ⌝ }

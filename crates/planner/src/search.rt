@@ -29,8 +29,9 @@ fn copy(out: &mut [u32], words: &[u32; 16], k: usize)
     }
 }
 
-// Whether no plan of any length exists. It is asked as the stored nogoods pass 64: the search is long,
-// and the states may be few. `false` says nothing.
+// Whether no plan of any length exists. It is asked after a count of rounds in which the place of the
+// last nogood, `before` and then `stored`, has passed `LONG`: the search is long, and the states may be
+// few. `false` says nothing.
 fn stuck(job: ReadFitting, before: u64, stored: u64) -> bool
     requires { ⌜ job .steps ≤ 64 ⌝ }
     ensures { λ r. ⌜ Hopeless (fittingIn job) r ⌝ }

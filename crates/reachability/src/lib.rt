@@ -31,7 +31,7 @@ const MULTIPLIER: u64 = 0x9e37_79b1;
 // Of the product, the bits from this one on tell the slot; those below it depend on fewer facts.
 const LOWEST: u64 = 0x100_0000;
 
-// Where a state stands in the table of slots: it is listed, it may be entered at a slot, or there is no
+// What the table of slots says of a state: it is listed, it may be entered at a slot, or there is no
 // free slot near by.
 enum Place {
     Known,
@@ -97,8 +97,8 @@ fn place_of(states: &[u64], slots: &[u16], count: usize, state: u64) -> Place
     Place::Crowded
 }
 
-// Enters a state into the list unless it is there. The answer is how many there are now, and 0 where
-// there is no room.
+// Enters a state into the list unless it is there. The answer is how many there are now, and 0 if there
+// is no room.
 fn insert(states: &mut [u64], slots: &mut [u16], count: usize, state: u64) -> usize
     requires { ⌜ (count ≤ length (now states)) × (length (now states) ≡ 8192) × (length (now slots) ≡ 32768) ⌝ }
     ensures { λ r. ⌜ Entered (now (states .entry)) (now (states .exit)) count state r ⌝ }
@@ -118,7 +118,7 @@ fn insert(states: &mut [u64], slots: &mut [u16], count: usize, state: u64) -> us
     }
 }
 
-// Enters what a step leads to, where all that it needs is there.
+// Enters what a step leads to, if all that it needs is there.
 fn try_step(
     states: &mut [u64],
     slots: &mut [u16],
@@ -165,8 +165,16 @@ fn expand(
     n
 }
 
-// Whether no plan of any length exists: the list of states has an end, and none of them has the goal.
-// `false` says nothing.
+// Unsolvable by reachability: whether the states that single steps lead to show that `job` has no plan.
+//
+// These states are listed breadth first, from the start on: state i is tried for the goal, and then
+// what each step that can be made in it leads to is put at the end of the list, unless it is there. The
+// steps of a round can be made one after the other, so that single steps reach what rounds reach.
+//
+// What falls is the count of the states that could still have their turn, `STATES` - i. `true` says that
+// the list has an end and that no state of it has the goal: then no plan of any length exists. `false`
+// says nothing: a state has the goal, or there was no room for one. So this can end a search early that
+// would find no plan, and changes no answer.
 pub fn hopeless(job: ReadFitting) -> bool
     requires { ⌜ job .steps ≤ 64 ⌝ }
     ensures { λ r. ⌜ Hopeless (fittingIn job) r ⌝ }
