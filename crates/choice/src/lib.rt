@@ -30,7 +30,7 @@ pub enum Found {
 
 // A selection with the set aside, or that there is no selection.
 pub enum Choice {
-    Chosen(u64, u64),
+    Chosen { selection: u64, aside: u64 },
     Nothing,
 }
 
@@ -120,7 +120,7 @@ pub fn choose(
     let carriers = table::transposed(wishes);
     let found = smallest(wishes, &both, &carriers, live, order, floor);
     match found {
-        Found::Set(x) => Choice::Chosen(x, aside),
+        Found::Set(selection) => Choice::Chosen { selection, aside },
         Found::Nothing => Choice::Nothing,
     }
 }

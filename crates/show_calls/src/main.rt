@@ -74,8 +74,8 @@ fn choose(label: &[u8], file: &[u8], groups: &[u8], goals: &[u64], floor: u64) {
     show_print::say_number(b" at floor ", floor);
     let answer = calls::choose(file, groups, goals, floor);
     match answer {
-        ChoiceAnswer::Chosen(s, aside) => {
-            say_set(b": chosen", s.bits);
+        ChoiceAnswer::Chosen { selection, aside } => {
+            say_set(b": chosen", selection.bits);
             say_set(b" aside", aside.bits);
             show_print::say(b"\n");
         }
