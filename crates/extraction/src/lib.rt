@@ -5,13 +5,16 @@ ghost use Prim.Native.Nat.{_/_, _^_, _≤_};
 ghost use lib.Dec.{eqb};
 ghost use lib.ListN.{length};
 ghost use Rattle.sets.specs.Sets.{_⊆_};
-ghost use Rattle.extraction.specs.Extraction.{graph, Fine, Nogoods, Unreached, Extracted};
+ghost use Rattle.extraction.specs.Extraction.{allFacts, graph, Fine, Nogoods, Unreached, Extracted};
 
 mod nogoods;
 
 use choice::Found;
 use nogoods::Known;
 use sets::word;
+
+// The set of all 32 facts.
+pub const ALL_FACTS: u64 = 0xffff_ffff;
 
 // The vertex of step 0: the vertices below it are the keepers of the facts.
 const FIRST_STEP: usize = 32;
@@ -33,10 +36,10 @@ fn steps_of(selection: u64) -> u32
 }
 
 // Whether the box is the whole: what is refuted in it is refuted altogether.
-fn whole(may: u64, all: u64, must: u64) -> bool
-    ensures { λ r. ⌜ r ≡ (eqb may all && eqb must 0) ⌝ }
+fn whole(may: u64, must: u64) -> bool
+    ensures { λ r. ⌜ r ≡ (eqb may allFacts && eqb must 0) ⌝ }
 {
-    if may != all {
+    if may != ALL_FACTS {
         return false;
     }
     must == 0
@@ -72,16 +75,15 @@ fn dropped(
     members: &[u64],
     words: &[u64],
     start: u64,
-    all: u64,
     plan: &mut [u32],
     table: &mut [u64],
     j: usize,
     refuted: u64,
     before: u64,
 ) -> u64
-    requires { ⌜ Fine (graph (now needs) (now gives) (now members) (now words) start all) (now carriers) × Nogoods (graph (now needs) (now gives) (now members) (now words) start all) (now table) ⌝ }
-    requires { ⌜ (j ≤ length (now members)) × (j ≤ length (now plan)) × Unreached (graph (now needs) (now gives) (now members) (now words) start all) j all refuted ⌝ }
-    ensures { λ r. ⌜ (r ⊆ refuted) × Unreached (graph (now (needs .entry)) (now (gives .entry)) (now (members .entry)) (now (words .entry)) start all) j all r × Nogoods (graph (now (needs .entry)) (now (gives .entry)) (now (members .entry)) (now (words .entry)) start all) (now (table .exit)) ⌝ }
+    requires { ⌜ Fine (graph (now needs) (now gives) (now members) (now words) start) (now carriers) × Nogoods (graph (now needs) (now gives) (now members) (now words) start) (now table) ⌝ }
+    requires { ⌜ (j ≤ length (now members)) × (j ≤ length (now plan)) × Unreached (graph (now needs) (now gives) (now members) (now words) start) j allFacts refuted ⌝ }
+    ensures { λ r. ⌜ (r ⊆ refuted) × Unreached (graph (now (needs .entry)) (now (gives .entry)) (now (members .entry)) (now (words .entry)) start) j allFacts r × Nogoods (graph (now (needs .entry)) (now (gives .entry)) (now (members .entry)) (now (words .entry)) start) (now (table .exit)) ⌝ }
 {
     if !nogoods::many(table, before) {
         return refuted;
@@ -98,12 +100,11 @@ fn dropped(
             members,
             words,
             start,
-            all,
             plan,
             table,
             j,
             word::less(least, b),
-            all,
+            ALL_FACTS,
             0,
             0,
         );
@@ -136,7 +137,6 @@ pub fn extract(
     members: &[u64],
     words: &[u64],
     start: u64,
-    all: u64,
     plan: &mut [u32],
     table: &mut [u64],
     k: usize,
@@ -145,9 +145,9 @@ pub fn extract(
     must: u64,
     why: u64,
 ) -> Outcome
-    requires { ⌜ Fine (graph (now needs) (now gives) (now members) (now words) start all) (now carriers) × Nogoods (graph (now needs) (now gives) (now members) (now words) start all) (now table) ⌝ }
-    requires { ⌜ (k ≤ length (now members)) × (k ≤ length (now plan)) × (goal ⊆ all) × (may ⊆ all) × (why ⊆ goal) ⌝ }
-    ensures { λ r. ⌜ Extracted (graph (now (needs .entry)) (now (gives .entry)) (now (members .entry)) (now (words .entry)) start all) k goal may must why (now (plan .exit)) r × Nogoods (graph (now (needs .entry)) (now (gives .entry)) (now (members .entry)) (now (words .entry)) start all) (now (table .exit)) ⌝ }
+    requires { ⌜ Fine (graph (now needs) (now gives) (now members) (now words) start) (now carriers) × Nogoods (graph (now needs) (now gives) (now members) (now words) start) (now table) ⌝ }
+    requires { ⌜ (k ≤ length (now members)) × (k ≤ length (now plan)) × (goal ⊆ allFacts) × (may ⊆ allFacts) × (why ⊆ goal) ⌝ }
+    ensures { λ r. ⌜ Extracted (graph (now (needs .entry)) (now (gives .entry)) (now (members .entry)) (now (words .entry)) start) k goal may must why (now (plan .exit)) r × Nogoods (graph (now (needs .entry)) (now (gives .entry)) (now (members .entry)) (now (words .entry)) start) (now (table .exit)) ⌝ }
 {
     if k == 0 {
         let lack = word::without(goal, start);
@@ -156,7 +156,7 @@ pub fn extract(
         }
         return Outcome::Refuted(word::more(why, word::lowest(lack)));
     }
-    let first = whole(may, all, must);
+    let first = whole(may, must);
     let seen = nogoods::lookup(table, k, goal, first);
     if let Known::Nogood(c) = seen {
         return Outcome::Refuted(c | why);
@@ -178,12 +178,11 @@ pub fn extract(
         members,
         words,
         start,
-        all,
         plan,
         table,
         j,
         wanted,
-        all,
+        ALL_FACTS,
         0,
         0,
     );
@@ -198,7 +197,6 @@ pub fn extract(
         members,
         words,
         start,
-        all,
         plan,
         table,
         j,
@@ -217,7 +215,6 @@ pub fn extract(
             members,
             words,
             start,
-            all,
             plan,
             table,
             k,

@@ -11,7 +11,7 @@ use lib.Pow.{pow-lt}
 use lib.Seq.{take-suc, length-take-le, getD-take}
 use borrow.Author.Tests.{lt-ltb, le-ltb}
 use Rattle.sets.specs.Ranges.{num, listTo}
-use Rattle.sets.specs.Sets.{bit, _⊆_, member, full, gathered}
+use Rattle.sets.specs.Sets.{bit, _⊆_, member, gathered}
 use Rattle.sets.proofs.Ranges.{list-length, list-at, list-past}
 use Rattle.sets.proofs.Bits.{ext-below, num-member, part-full}
 use Rattle.sets.proofs.Made.{set-below, set-bit}
@@ -28,7 +28,7 @@ use Rattle.planning.proofs.WordLaws.{words-length, rounds-words, rounds-turned}
 use Rattle.planning.proofs.LayerLaws.{roomy}
 use Rattle.planning.proofs.BackLaws.{reaches-plan, forth, back}
 use Rattle.supports.specs.Questions.{rowOf}
-use Rattle.extraction.specs.Extraction.{Graph, graph, Picks, needsOf, Back, Held, Fine}
+use Rattle.extraction.specs.Extraction.{allFacts, Graph, graph, Picks, needsOf, Back, Held, Fine}
 use Rattle.planner.specs.Planner.{plannedBy, Words}
 use Rattle.planner.specs.Tabulated.{roundAfter, Tabulated, Laid, Unplanned, Searched}
 use Rattle.planner.specs.declared.Planned.{Planned}
@@ -170,16 +170,15 @@ module _ (F : Fitting) (h : ℕ) (T : Graph) (ok : Tabulated F h T) where
 
   pub fine : (carriers : List ℕ) → h ≤ 16 → carriers ≡ transposed 64 (T .gives) → Fine T carriers
   fine carriers few e = record {
-    wide = omega (arith, ok .all);
-    inside = λ v. rw (ok .all, needs-at v) (part-full 32 (vertices 32 F .needs v) (vertex-needs F (ok .sized) v));
+    inside = λ v. rw (needs-at v) (part-full 32 (vertices 32 F .needs v) (vertex-needs F (ok .sized) v));
     short = omega (arith, members-length);
     rows = omega (arith, members-length, ok .long);
     tabled = λ j l. record { shared = shared j (omega (arith, members-length)); carried = e };
     grows = λ k r g l m b. later (r - k) k r g (omega arith) (omega (arith, members-length)) b;
   }
 
-  pub goal-inside : F .goal ⊆ T .all
-  goal-inside = rw (ok .all) (part-full 32 (F .goal) (roomy 32 F (ok .sized) (F .goal) (ok .sized .goal)))
+  pub goal-inside : F .goal ⊆ allFacts
+  goal-inside = part-full 32 (F .goal) (roomy 32 F (ok .sized) (F .goal) (ok .sized .goal))
 
   -- ---- what the search answers
 
@@ -207,13 +206,12 @@ module _ (F : Fitting) (h : ℕ) (T : Graph) (ok : Tabulated F h T) where
 
 -- ---- the tables that the code makes: arrays, of which the front is lent
 
-pub tabulated : (F : Fitting) (h : ℕ) (needs gives members front words : List ℕ) (start all : ℕ) → Sized 32 F → h ≤ 16
+pub tabulated : (F : Fitting) (h : ℕ) (needs gives members front words : List ℕ) (start : ℕ) → Sized 32 F → h ≤ 16
     → needs ≡ listTo 64 (vertices 32 F .needs) → gives ≡ listTo 64 (vertices 32 F .gives) → Laid F h members words → front ≡ take h members
-    → start ≡ F .start → all ≡ full 32 → Tabulated F h (graph needs gives front words start all)
-tabulated F h needs gives members front words start all sized few en eg laid ef es ea = record {
+    → start ≡ F .start → Tabulated F h (graph needs gives front words start)
+tabulated F h needs gives members front words start sized few en eg laid ef es = record {
   sized = sized;
   start = es;
-  all = ea;
   needs = en;
   gives = eg;
   members = ef ∙ filled-end h (λ j. roundAfter F j .members) (take h members) h

@@ -4,7 +4,6 @@ use mathlib.Core.List.{List}
 use Prim.Native.Nat.{ℕ, _+_, _*_, _≤_, _<_}
 use lib.ListN.{length, getD, drop}
 use Rattle.sets.specs.Ranges.{listTo}
-use Rattle.sets.specs.Sets.{full}
 use Rattle.planning.specs.Rounds.{Fitting, Plan}
 use Rattle.planning.specs.Layers.{Layer, vertices, factLayer, roundOver}
 use Rattle.planning.specs.Back.{Sized}
@@ -21,7 +20,6 @@ roundAfter F j = roundOver 32 (vertices 32 F) (32 + F .count) (factLayer 32 F j)
 pub record Tabulated (F : Fitting) (h : ℕ) (T : Graph) : Type 0 where
   pub sized : Sized 32 F
   pub start : T .start ≡ F .start
-  pub all : T .all ≡ full 32
   pub needs : T .needs ≡ listTo 64 (vertices 32 F .needs)
   pub gives : T .gives ≡ listTo 64 (vertices 32 F .gives)
   pub members : T .members ≡ listTo h (λ j. roundAfter F j .members)

@@ -17,9 +17,6 @@ use sets::table;
 // The most rounds of a plan, and so the most round layers.
 const ROUNDS: usize = 16;
 
-// The set of all 32 facts.
-const ALL_FACTS: u64 = 0xffff_ffff;
-
 // How many rounds a plan has, or that there is no plan.
 pub enum Planned {
     Rounds(usize),
@@ -50,7 +47,6 @@ pub fn plan(job: ReadFitting, out: &mut [u32]) -> Planned
         &members[0..h],
         &words,
         job.start,
-        ALL_FACTS,
         job.goal,
         out,
     )

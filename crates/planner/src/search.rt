@@ -2,12 +2,13 @@
 ghost use Prim.Native.Nat.{_≤_};
 ghost use lib.ListN.{length};
 ghost use Rattle.sets.specs.Sets.{_⊆_};
-ghost use Rattle.extraction.specs.Extraction.{graph, Fine};
+ghost use Rattle.extraction.specs.Extraction.{allFacts, graph, Fine};
 ghost use Rattle.layers.specs.Meaning.{fittingIn};
 ghost use Rattle.reachability.specs.States.{Hopeless};
 ghost use Rattle.planner.specs.Tabulated.{Copied, Unplanned, Searched};
 use crate::Planned;
 use crate::ROUNDS;
+use extraction::ALL_FACTS;
 use extraction::Outcome;
 use jobfile::ReadFitting;
 
@@ -55,13 +56,12 @@ pub fn shortest(
     members: &[u64],
     words: &[u64],
     start: u64,
-    all: u64,
     goal: u64,
     out: &mut [u32],
 ) -> Planned
-    requires { ⌜ Fine (graph (now needs) (now gives) (now members) (now words) start all) (now carriers) × (length (now members) ≤ length (now out)) × (goal ⊆ all) ⌝ }
-    requires { ⌜ (job .steps ≤ 64) × Unplanned (fittingIn job) (graph (now needs) (now gives) (now members) (now words) start all) (length (now members)) goal ⌝ }
-    ensures { λ r. ⌜ Searched (graph (now (needs .entry)) (now (gives .entry)) (now (members .entry)) (now (words .entry)) start all) (length (now (members .entry))) goal (now (out .entry)) (now (out .exit)) r ⌝ }
+    requires { ⌜ Fine (graph (now needs) (now gives) (now members) (now words) start) (now carriers) × (length (now members) ≤ length (now out)) × (goal ⊆ allFacts) ⌝ }
+    requires { ⌜ (job .steps ≤ 64) × Unplanned (fittingIn job) (graph (now needs) (now gives) (now members) (now words) start) (length (now members)) goal ⌝ }
+    ensures { λ r. ⌜ Searched (graph (now (needs .entry)) (now (gives .entry)) (now (members .entry)) (now (words .entry)) start) (length (now (members .entry))) goal (now (out .entry)) (now (out .exit)) r ⌝ }
 {
     let mut made: [u32; ROUNDS] = [0; ROUNDS];
     let mut table: [u64; TABLE] = [0; TABLE];
@@ -75,12 +75,11 @@ pub fn shortest(
             members,
             words,
             start,
-            all,
             &mut made,
             &mut table,
             k,
             goal,
-            all,
+            ALL_FACTS,
             0,
             0,
         );

@@ -46,10 +46,10 @@ shortest-requires c κs =
     let made = c .before .before .before .before .before .before .before .before .before .round-layers in
     let members = made .result .members in
     let z : h - 0 ≡ h = omega arith in
-    let T = graph (needs .result) (gives .result) (take (h - 0) members) (made .result .words) (job .start) 4294967295 in
+    let T = graph (needs .result) (gives .result) (take (h - 0) members) (made .result .words) (job .start) in
     let tab : Tabulated (fittingIn job) h T =
-    tabulated (fittingIn job) h (needs .result) (gives .result) members (take (h - 0) members) (made .result .words) (job .start) 4294967295 (e .pre .0) (e .pre .1) (needs .ensures) (gives .ensures)
-    (made .ensures) (ap (λ (n : ℕ). take n members) z) refl refl in
+    tabulated (fittingIn job) h (needs .result) (gives .result) members (take (h - 0) members) (made .result .words) (job .start) (e .pre .0) (e .pre .1) (needs .ensures) (gives .ensures)
+    (made .ensures) (ap (λ (n : ℕ). take n members) z) refl in
     let many = members-length (fittingIn job) h T tab in
     ((fine (fittingIn job) h T tab (c .before .before .before .before .before .before .before .before .before .before .transposed .result) (e .pre .1) (c .before .before .before .before .before .before .before .before .before .before .transposed .ensures), omega (arith, many, e .pre .2), goal-inside (fittingIn job) h T tab), (omega (arith, e .pre .0 .few), unplanned (fittingIn job) h T tab (length (T .members)) (job .goal) many refl))
 
@@ -66,16 +66,16 @@ returns c =
     let made = c .before .before .before .before .before .before .before .before .before .before .before .before .round-layers in
     let members = made .result .members in
     let z : h - 0 ≡ h = omega arith in
-    let T = graph (needs .result) (gives .result) (take (h - 0) members) (made .result .words) (job .start) 4294967295 in
+    let T = graph (needs .result) (gives .result) (take (h - 0) members) (made .result .words) (job .start) in
     let tab : Tabulated (fittingIn job) h T =
-    tabulated (fittingIn job) h (needs .result) (gives .result) members (take (h - 0) members) (made .result .words) (job .start) 4294967295 (e .pre .0) (e .pre .1) (needs .ensures) (gives .ensures)
-    (made .ensures) (ap (λ (n : ℕ). take n members) z) refl refl in
+    tabulated (fittingIn job) h (needs .result) (gives .result) members (take (h - 0) members) (made .result .words) (job .start) (e .pre .0) (e .pre .1) (needs .ensures) (gives .ensures)
+    (made .ensures) (ap (λ (n : ℕ). take n members) z) refl in
     let many = members-length (fittingIn job) h T tab in
     let r = c .before .before .shortest in
     let old = now (e .args .out) in
-    let new = r .last .1 .1 .1 .1 .1 .1 .1 .1 .1 .0 in
+    let new = r .last .1 .1 .1 .1 .1 .1 .1 .1 .0 in
     let searched = subst (λ (n : ℕ). Searched T n (job .goal) old new (r .result)) many (r .ensures) in
-    let room : h ≤ length new = omega (arith, r .kept .1 .1 .1 .1 .1 .1 .1 .1 .1 .0, e .pre .2) in
+    let room : h ≤ length new = omega (arith, r .kept .1 .1 .1 .1 .1 .1 .1 .1 .0, e .pre .2) in
     (solved-count (fittingIn job) h T tab (job .goal) old new (r .result) refl searched, solved-words (fittingIn job) h T tab (job .goal) old new (r .result) refl searched room)
 
 pub plan-spec : {M : Type 1} → statement M

@@ -8,7 +8,7 @@ use lib.ListN.{length, drop}
 use Rattle.sets.proofs.Bits.{bit-empty, part-refl}
 use Rattle.layers.specs.Meaning.{fittingIn}
 use Rattle.reachability.specs.States.{Hopeless}
-use Rattle.extraction.specs.Extraction.{graph, Back, Nogoods, Extracted}
+use Rattle.extraction.specs.Extraction.{allFacts, graph, Back, Nogoods, Extracted}
 use Rattle.extraction.proofs.NogoodLaws.{empty-nogoods}
 use Rattle.planner.specs.declared.Planned.the-variants as Planned
 use Rattle.planner.specs.Tabulated.{Copied, Searched}
@@ -17,12 +17,12 @@ use Rattle.planner.proofs.search.shortest.Statement.{statement}
 use Rattle.planner.proofs.search.shortest.Tie as tie
 
 abbrev Inv-loop : tie.InvT-loop
-Inv-loop job needs gives carriers members words start all goal out₀ made₀ table₀ k₀ out made table k =
-    (k ≤ length members + 1) × (length made ≡ 16) × (length table ≡ 8192) × (out ≡ out₀) × Nogoods (graph needs gives members words start all) table
-    × ((i : ℕ) → i < k → Back (graph needs gives members words start all) i goal → ⊥)
+Inv-loop job needs gives carriers members words start goal out₀ made₀ table₀ k₀ out made table k =
+    (k ≤ length members + 1) × (length made ≡ 16) × (length table ≡ 8192) × (out ≡ out₀) × Nogoods (graph needs gives members words start) table
+    × ((i : ℕ) → i < k → Back (graph needs gives members words start) i goal → ⊥)
 
 abbrev μ-loop : tie.MeasureT-loop
-μ-loop job needs gives carriers members words start all goal out₀ made₀ table₀ k₀ out made table k =
+μ-loop job needs gives carriers members words start goal out₀ made₀ table₀ k₀ out made table k =
     length members + 1 - k
 
 loop-holds : tie.Need-loop-holds Inv-loop μ-loop
@@ -32,7 +32,7 @@ loop-holds c =
       refl,
       refl,
       refl,
-      empty-nogoods (graph (w .needs .now) (w .gives .now) (w .members .now) (w .words .now) (w .start) (w .all)) 8192,
+      empty-nogoods (graph (w .needs .now) (w .gives .now) (w .members .now) (w .words .now) (w .start)) 8192,
       λ i l. absurd (let f : ⊥ = omega arith in f),
     )
 
@@ -50,7 +50,7 @@ extract-requires c κs =
     let w = c .before .before .before .before .before .before .before in
     let l = c .before .before .before .loop in
     let k : l .k ≤ length (w .args .members .now) = omega (arith, c .before .before .loop-test .taken) in
-    ((w .pre .0 .0, l .inv .4), (k, omega (arith, w .pre .0 .0 .short, l .inv .1), w .pre .0 .2, part-refl (w .args .all), λ i. omega (arith, bit-empty i)))
+    ((w .pre .0 .0, l .inv .4), (k, omega (arith, w .pre .0 .0 .short, l .inv .1), w .pre .0 .2, part-refl allFacts, λ i. omega (arith, bit-empty i)))
 
 enum-known-outcome : tie.Need-enum-known-outcome Inv-loop μ-loop
 enum-known-outcome c = search needs
@@ -74,9 +74,9 @@ returns c =
     let l = c .before .before .before .before .before .before .before .before .before .before .before .before .before .loop in
     let e = c .before .before .before .before .before .before .before .before .before .extract in
     let copied = c .before .before .copy in
-    let T = graph (w .args .needs .now) (w .args .gives .now) (w .args .members .now) (w .args .words .now) (w .args .start) (w .args .all) in
-    let made = e .last .1 .1 .1 .1 .1 .1 .1 .0 in
-    let held = subst (λ r. Extracted T (l .k) (w .args .goal) (w .args .all) 0 0 made r) (c .before .before .before .before .before .enum-told .given .1) (e .ensures .0) in
+    let T = graph (w .args .needs .now) (w .args .gives .now) (w .args .members .now) (w .args .words .now) (w .args .start) in
+    let made = e .last .1 .1 .1 .1 .1 .1 .0 in
+    let held = subst (λ r. Extracted T (l .k) (w .args .goal) allFacts 0 0 made r) (c .before .before .before .before .before .enum-told .given .1) (e .ensures .0) in
     let (front, rest) = subst (λ (n : ℕ). Copied n made (l .out) (copied .last .0)) (let words : _ ≡ l .k = omega arith in words) (copied .ensures) in
     let k : l .k ≤ length (w .args .members .now) = omega (arith, c .before .before .before .before .before .before .before .before .before .before .before .before .loop-test .taken) in
     subst (λ (n : ℕ). Searched T (length (w .args .members .now)) (w .args .goal) (w .args .out .now) (copied .last .0) (Planned.Rounds n)) (let count : l .k ≡ _ = omega arith in count)
@@ -108,10 +108,10 @@ loop-again c =
     let w = c .before .before .before .before .before .before .before .before .before .before .before .before .before .before .before in
     let l = c .before .before .before .before .before .before .before .before .before .before .before .loop in
     let e = c .before .before .before .before .before .before .before .extract in
-    let T = graph (w .args .needs .now) (w .args .gives .now) (w .args .members .now) (w .args .words .now) (w .args .start) (w .args .all) in
+    let T = graph (w .args .needs .now) (w .args .gives .now) (w .args .members .now) (w .args .words .now) (w .args .start) in
     let k : l .k ≤ length (w .args .members .now) = omega (arith, c .before .before .before .before .before .before .before .before .before .before .loop-test .taken) in
-    let made = e .last .1 .1 .1 .1 .1 .1 .1 .0 in
-    let refused = subst (λ r. Extracted T (l .k) (w .args .goal) (w .args .all) 0 0 made r) (c .before .before .before .outcome .given .1) (e .ensures .0) in (
+    let made = e .last .1 .1 .1 .1 .1 .1 .0 in
+    let refused = subst (λ r. Extracted T (l .k) (w .args .goal) allFacts 0 0 made r) (c .before .before .before .outcome .given .1) (e .ensures .0) in (
       omega arith,
       search needs,
       search needs,
