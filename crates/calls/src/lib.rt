@@ -84,7 +84,10 @@ pub fn pass(file: &[u8], groups: &[u8], live: ArticleSet, goal: u64) -> PassAnsw
 
 // A selection with the set aside, or why there is none.
 pub enum ChoiceAnswer {
-    Chosen(ArticleSet, ArticleSet),
+    Chosen {
+        selection: ArticleSet,
+        aside: ArticleSet,
+    },
     Refused(Refusal),
 }
 
@@ -93,9 +96,10 @@ fn searched(chosen: Choice) -> ChoiceAnswer
     ensures { λ r. ⌜ choiceTold r ≡ said (searched chosen) ⌝ }
 {
     match chosen {
-        Choice::Chosen(x, aside) => {
-            ChoiceAnswer::Chosen(ArticleSet { bits: x }, ArticleSet { bits: aside })
-        }
+        Choice::Chosen { selection, aside } => ChoiceAnswer::Chosen {
+            selection: ArticleSet { bits: selection },
+            aside: ArticleSet { bits: aside },
+        },
         Choice::Nothing => ChoiceAnswer::Refused(reading::refusal_at(Reason::NoSelection, 0)),
     }
 }

@@ -91,7 +91,7 @@ pub extern "C" fn kitchen_choose(
 {
     let answer = calls::choose(file, groups, goals, floor);
     match answer {
-        ChoiceAnswer::Chosen(s, aside) => answered(out, s.bits, aside.bits),
+        ChoiceAnswer::Chosen { selection, aside } => answered(out, selection.bits, aside.bits),
         ChoiceAnswer::Refused(refusal) => refused(out, refusal),
     }
 }

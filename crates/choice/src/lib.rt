@@ -18,6 +18,7 @@ mod least;
 use jobfile::ReadChoice;
 use network::partition;
 use network::tables;
+use sets::ArticleSet;
 use sets::table;
 use sets::word;
 
@@ -29,7 +30,7 @@ pub enum Found {
 
 // A selection with the set aside, or that there is no selection.
 pub enum Choice {
-    Chosen(u64, u64),
+    Chosen { selection: u64, aside: u64 },
     Nothing,
 }
 
@@ -53,7 +54,7 @@ pub fn smallest(
         allowed,
         need,
         floor,
-        64,
+        ArticleSet::CAPACITY,
         0,
         false,
     )
@@ -119,7 +120,7 @@ pub fn choose(
     let carriers = table::transposed(wishes);
     let found = smallest(wishes, &both, &carriers, live, order, floor);
     match found {
-        Found::Set(x) => Choice::Chosen(x, aside),
+        Found::Set(selection) => Choice::Chosen { selection, aside },
         Found::Nothing => Choice::Nothing,
     }
 }
@@ -135,7 +136,7 @@ pub fn choose_alone(
     requires { ⌜ n ≤ 64 ⌝ }
     ensures { λ r. ⌜ r ≡ unaided (listed n (now (wishes .entry)) (now (clashes .entry))) order floor ⌝ }
 {
-    let mut groups: [u8; 64] = [0; 64];
+    let mut groups: [u8; ArticleSet::CAPACITY] = [0; ArticleSet::CAPACITY];
     partition::partition(clashes, n, &mut groups);
     let goals = [order];
     if order == 0 {

@@ -23,7 +23,7 @@ use Rattle.choice.specs.Meaning.{foundBy}
 use Rattle.choice.proofs.CoverLaws.{widened}
 use Rattle.supports.specs.Questions.{rowOf, Opens, Uncovered}
 use Rattle.supports.proofs.LayerLaws.{asked}
-use Rattle.extraction.specs.Extraction.{Graph, Picks, needsOf, Back, Held, Fine, Nogoods, StoredIf, Blocked, Lacking, Refutes}
+use Rattle.extraction.specs.Extraction.{allFacts, Graph, Picks, needsOf, Back, Held, Fine, Nogoods, StoredIf, Blocked, Lacking, Refutes}
 use Rattle.extraction.proofs.NogoodLaws.{stored-if, whole-box}
 
 -- ---- sets
@@ -188,27 +188,27 @@ module _ (T : Graph) where
     pub layer-asked : (k : ℕ) → k ≢ 0 → k ≤ length (T .members) → (k - 1 < 16) × (64 * (k - 1) + 64 ≤ length (T .words)) × Tabled 64 (T .gives) (rowOf (T .words) (k - 1)) carriers
     layer-asked k d l = (omega (arith, fine .short), omega (arith, fine .rows), fine .tabled (k - 1) (omega arith))
 
-    pub entry-asked : (k g e : ℕ) → k ≤ length (T .members) → g ⊆ T .all → e ⊆ g → (k ≤ 16) × (e < 2 ^ 32)
-    entry-asked k g e l hg he = (omega (arith, fine .short), part-below 32 e (T .all) (λ i. le-trans (he i) (hg i)) (fine .wide))
+    pub entry-asked : (k g e : ℕ) → k ≤ length (T .members) → g ⊆ allFacts → e ⊆ g → (k ≤ 16) × (e < 2 ^ 32)
+    entry-asked k g e l hg he = (omega (arith, fine .short), part-below 32 e allFacts (λ i. le-trans (he i) (hg i)) (omega arith))
 
     -- ---- the whole box: every selection lies in it
 
-    pub refuses-whole : (k g why e : ℕ) → Refutes T k g (T .all) 0 why e → (e ⊆ g) × (Back T k e → ⊥)
+    pub refuses-whole : (k g why e : ℕ) → Refutes T k g allFacts 0 why e → (e ⊆ g) × (Back T k e → ⊥)
     unfolding Back
     refuses-whole zero g why e r = (r .part, r .lacks)
     refuses-whole (suc j) g why e r = (r .part, λ (x, p, b). r .blocked x p (λ i. omega (arith, bit-empty i)) (inside x) b)
       where
-        inside : (x : ℕ) → needsOf T x ⊆ T .all
+        inside : (x : ℕ) → needsOf T x ⊆ allFacts
         inside x =
-            in-part (needsOf T x) (T .all)
-            (λ i m. let (u, l, mu, mi) = gathered-from 64 (λ v. getD (T .needs) v 0) x i m in part-in (getD (T .needs) u 0) (T .all) (fine .inside u) i mi)
+            in-part (needsOf T x) allFacts
+            (λ i m. let (u, l, mu, mi) = gathered-from 64 (λ v. getD (T .needs) v 0) x i m in part-in (getD (T .needs) u 0) allFacts (fine .inside u) i mi)
 
     -- so that what is refused there may be stored
-    pub stored-refused : (first : Bool) (old new : List ℕ) (k g may must why e : ℕ) → first ≡ (eqb may (T .all) && eqb must 0) → k ≤ length (T .members) → e < 2 ^ 32
+    pub stored-refused : (first : Bool) (old new : List ℕ) (k g may must why e : ℕ) → first ≡ (eqb may allFacts && eqb must 0) → k ≤ length (T .members) → e < 2 ^ 32
         → Refutes T k g may must why e → Nogoods T old → StoredIf first k e old new → Nogoods T new
     stored-refused first old new k g may must why e q few below r known stored = stored-if T first old new known k e stored few below none
       where
         none : first ≡ true → Back T k e → ⊥
         none on =
-            let (same, empty) = whole-box may (T .all) must (sym q ∙ on) in
+            let (same, empty) = whole-box may allFacts must (sym q ∙ on) in
             refuses-whole k g why e (subst (λ (x : ℕ). Refutes T k g x 0 why e) same (subst (λ (y : ℕ). Refutes T k g may y why e) empty r)) .1

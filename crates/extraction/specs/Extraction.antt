@@ -6,24 +6,29 @@ use mathlib.Core.List.{List}
 use mathlib.Core.Logic.{_⊎_}
 use Prim.Native.Nat.{ℕ, zero, suc, _+_, _*_, _/_, _%_, _^_, _≤_, _<_}
 use lib.ListN.{length, getD}
-use Rattle.sets.specs.Sets.{_⊆_, gathered}
+use Rattle.sets.specs.Sets.{_⊆_, full, gathered}
 use Rattle.network.specs.Network.{listed, Cover}
 use Rattle.network.specs.Tables.{Tabled}
 use Rattle.supports.specs.Questions.{rowOf}
 use Rattle.extraction.specs.declared.Outcome.{Outcome}
 use Rattle.extraction.specs.declared.Outcome.the-variants as Outcome
+use Rattle.extraction.specs.declared.nogoods.Known.{Known}
+use Rattle.extraction.specs.declared.nogoods.Known.the-variants as Known
 
--- the facts at the start and all facts; what each of 64 vertices needs and gives; of each round layer its vertices and 64 mutex words
+-- the 32 facts
+abbrev pub allFacts : ℕ
+allFacts = full 32
+
+-- the facts at the start; what each of 64 vertices needs and gives; of each round layer its vertices and 64 mutex words
 pub record Graph : Type 0 where
   pub start : ℕ
-  pub all : ℕ
   pub needs : List ℕ
   pub gives : List ℕ
   pub members : List ℕ
   pub words : List ℕ
 
-abbrev pub graph : List ℕ → List ℕ → List ℕ → List ℕ → ℕ → ℕ → Graph
-graph needs gives members words start all = record { start = start; all = all; needs = needs; gives = gives; members = members; words = words }
+abbrev pub graph : List ℕ → List ℕ → List ℕ → List ℕ → ℕ → Graph
+graph needs gives members words start = record { start = start; needs = needs; gives = gives; members = members; words = words }
 
 -- x is a selection of round layer j + 1 for the facts g
 abbrev pub Picks : Graph → ℕ → ℕ → ℕ → Type 0
@@ -43,11 +48,10 @@ unfoldable pub Held : Graph → ℕ → ℕ → List ℕ → Type 0
 Held T zero g p = g ⊆ T .start
 Held T (suc j) g p = (x : ℕ) × Picks T j g x × (getD p j 0 ≡ x / 2 ^ 32) × Held T j (needsOf T x) p
 
--- there are at most 32 facts and 16 layers, needs are facts, the carriers are those of what is given and mutexes stand at both vertices,
--- and what k rounds reach more rounds reach
+-- needs are facts, there are at most 16 layers, the carriers are those of what is given and mutexes stand at both vertices, and what k
+-- rounds reach more rounds reach
 pub record Fine (T : Graph) (carriers : List ℕ) : Type 0 where
-  pub wide : T .all < 2 ^ 32
-  pub inside : (v : ℕ) → getD (T .needs) v 0 ⊆ T .all
+  pub inside : (v : ℕ) → getD (T .needs) v 0 ⊆ allFacts
   pub short : length (T .members) ≤ 16
   pub rows : 64 * length (T .members) ≤ length (T .words)
   pub tabled : (j : ℕ) → j < length (T .members) → Tabled 64 (T .gives) (rowOf (T .words) j) carriers
@@ -64,9 +68,9 @@ unfoldable pub Nogoods : Graph → List ℕ → Type 0
 Nogoods T table = (i : ℕ) → 0 < i → 0 < getD table i 0 / 2 ^ 32 → (getD table i 0 / 2 ^ 32 ≤ length (T .members)) × (Back T (getD table i 0 / 2 ^ 32) (getD table i 0 % 2 ^ 32) → ⊥)
 
 -- an entry for k rounds or more whose set is a part of g, or nothing
-abbrev pub Noted : List ℕ → ℕ → ℕ → Outcome → Type 0
-Noted table k g Outcome.Made = Unit {0}
-Noted table k g (Outcome.Refuted c) = (c ⊆ g) × ((i : ℕ) × (0 < i) × (k ≤ getD table i 0 / 2 ^ 32) × (c ≡ getD table i 0 % 2 ^ 32))
+abbrev pub Noted : List ℕ → ℕ → ℕ → Known → Type 0
+Noted table k g Known.Nothing = Unit {0}
+Noted table k g (Known.Nogood c) = (c ⊆ g) × ((i : ℕ) × (0 < i) × (k ≤ getD table i 0 / 2 ^ 32) × (c ≡ getD table i 0 % 2 ^ 32))
 
 -- each entry of the new table is one of the old, or the pair of k and e
 abbrev pub Stored : ℕ → ℕ → List ℕ → List ℕ → Type 0

@@ -5,12 +5,22 @@ ghost use Prim.Native.Nat.{_/_, _^_, _≤_};
 ghost use lib.Dec.{eqb};
 ghost use lib.ListN.{length};
 ghost use Rattle.sets.specs.Sets.{_⊆_};
-ghost use Rattle.extraction.specs.Extraction.{graph, Fine, Nogoods, Unreached, Extracted};
+ghost use Rattle.extraction.specs.Extraction.{allFacts, graph, Fine, Nogoods, Unreached, Extracted};
 
 mod nogoods;
 
 use choice::Found;
+use nogoods::Known;
 use sets::word;
+
+// The set of all 32 facts.
+pub const ALL_FACTS: u64 = 0xffff_ffff;
+
+// The vertex of step 0: the vertices below it are the keepers of the facts.
+const FIRST_STEP: usize = 32;
+
+// A refuted set of this size or smaller is not made smaller.
+const FEW: u32 = 3;
 
 // A plan, or facts that are refuted.
 pub enum Outcome {
@@ -22,33 +32,42 @@ pub enum Outcome {
 fn steps_of(selection: u64) -> u32
     ensures { λ r. ⌜ r ≡ selection / 2 ^ 32 ⌝ }
 {
-    (selection >> 32) as u32
+    (selection >> FIRST_STEP) as u32
 }
 
 // Whether the box is the whole: what is refuted in it is refuted altogether.
-fn whole(may: u64, all: u64, must: u64) -> bool
-    ensures { λ r. ⌜ r ≡ (eqb may all && eqb must 0) ⌝ }
+fn whole(may: u64, must: u64) -> bool
+    ensures { λ r. ⌜ r ≡ (eqb may allFacts && eqb must 0) ⌝ }
 {
-    if may != all {
+    if may != ALL_FACTS {
         return false;
     }
     must == 0
 }
 
-// The facts that may still be dropped: of those left, those that are still refuted; none where three
-// or fewer are refuted.
+// The facts that may still be dropped: of those left, those that are still refuted; none if `FEW` or
+// fewer are refuted.
 fn droppable(left: u64, refuted: u64) -> u64
     ensures { λ r. ⌜ (r ⊆ left) × (r ⊆ refuted) ⌝ }
 {
-    if word::count(refuted) <= 3 {
+    if word::count(refuted) <= FEW {
         return 0;
     }
     left & refuted
 }
 
-// Of facts that j rounds do not reach, some that they do not reach either: one after the other is
-// dropped where that can be. It is worth its searches only where they are newly refuted, after the
-// nogoods `before`, and many are stored.
+// A smaller explanation, by deletion: facts that j rounds do not reach are made fewer. `refuted` are
+// these facts, and `before` is the place of the last nogood before they were refuted; the other
+// arguments are those of `extract`.
+//
+// One fact after the other is left out, and `extract` is asked whether j rounds reach the others. If it
+// refutes them, the facts by which it does are taken in their place. That ends with `FEW` facts or
+// fewer, or once each of those left was tried. It pays only in a long search (`many`), and only if the
+// facts are newly refuted: a nogood was stored since `before`. Otherwise `refuted` is the answer.
+//
+// What falls in the loop is the set of the facts that are still to be tried, as a number; the calls are
+// for j rounds, one less than those of the caller. The answer is a part of `refuted` that j rounds do
+// not reach.
 fn dropped(
     needs: &[u64; 64],
     gives: &[u64; 64],
@@ -56,16 +75,15 @@ fn dropped(
     members: &[u64],
     words: &[u64],
     start: u64,
-    all: u64,
     plan: &mut [u32],
     table: &mut [u64],
     j: usize,
     refuted: u64,
     before: u64,
 ) -> u64
-    requires { ⌜ Fine (graph (now needs) (now gives) (now members) (now words) start all) (now carriers) × Nogoods (graph (now needs) (now gives) (now members) (now words) start all) (now table) ⌝ }
-    requires { ⌜ (j ≤ length (now members)) × (j ≤ length (now plan)) × Unreached (graph (now needs) (now gives) (now members) (now words) start all) j all refuted ⌝ }
-    ensures { λ r. ⌜ (r ⊆ refuted) × Unreached (graph (now (needs .entry)) (now (gives .entry)) (now (members .entry)) (now (words .entry)) start all) j all r × Nogoods (graph (now (needs .entry)) (now (gives .entry)) (now (members .entry)) (now (words .entry)) start all) (now (table .exit)) ⌝ }
+    requires { ⌜ Fine (graph (now needs) (now gives) (now members) (now words) start) (now carriers) × Nogoods (graph (now needs) (now gives) (now members) (now words) start) (now table) ⌝ }
+    requires { ⌜ (j ≤ length (now members)) × (j ≤ length (now plan)) × Unreached (graph (now needs) (now gives) (now members) (now words) start) j allFacts refuted ⌝ }
+    ensures { λ r. ⌜ (r ⊆ refuted) × Unreached (graph (now (needs .entry)) (now (gives .entry)) (now (members .entry)) (now (words .entry)) start) j allFacts r × Nogoods (graph (now (needs .entry)) (now (gives .entry)) (now (members .entry)) (now (words .entry)) start) (now (table .exit)) ⌝ }
 {
     if !nogoods::many(table, before) {
         return refuted;
@@ -82,12 +100,11 @@ fn dropped(
             members,
             words,
             start,
-            all,
             plan,
             table,
             j,
             word::less(least, b),
-            all,
+            ALL_FACTS,
             0,
             0,
         );
@@ -101,10 +118,18 @@ fn dropped(
     least
 }
 
-// A plan of k rounds for the goal, in the words 0 to k - 1. Or facts of the goal, with those of `why`,
-// that no selection of round layer k can be worked back for whose needs lie in `may` and include
-// `must`. Where the needs of a selection are refuted by the facts c, every other selection either needs
-// all of c, too, and is refuted with it, or lacks one of them, and lies in a smaller box.
+// Graphplan's backward extraction, with nogoods. `needs`, `gives` and `carriers` are the tables of the
+// vertices, `members` and `words` the vertices and mutex words of each round layer, `start` has the
+// facts at the start, `plan` gets the steps of each round, and `table` has the nogoods.
+//
+// The needs of a selection of round layer k for the goal are the goal of the round before. If they are
+// refuted there by facts c, every other selection either needs all of c and is refuted with it, or lacks
+// one of them. So those that do not need the first fact of c are tried next, then those that need the
+// first and not the second, and so on: a box has the selections whose needs lie in `may` and include
+// `must`. `why` has the facts by which the boxes before this one were refuted.
+//
+// What falls is k, and for one k `may`, as a number. The answer is a plan, in the words 0 to k - 1; or
+// facts of the goal, with those of `why`, for which no selection in the box leads back to the start.
 pub fn extract(
     needs: &[u64; 64],
     gives: &[u64; 64],
@@ -112,7 +137,6 @@ pub fn extract(
     members: &[u64],
     words: &[u64],
     start: u64,
-    all: u64,
     plan: &mut [u32],
     table: &mut [u64],
     k: usize,
@@ -121,9 +145,9 @@ pub fn extract(
     must: u64,
     why: u64,
 ) -> Outcome
-    requires { ⌜ Fine (graph (now needs) (now gives) (now members) (now words) start all) (now carriers) × Nogoods (graph (now needs) (now gives) (now members) (now words) start all) (now table) ⌝ }
-    requires { ⌜ (k ≤ length (now members)) × (k ≤ length (now plan)) × (goal ⊆ all) × (may ⊆ all) × (why ⊆ goal) ⌝ }
-    ensures { λ r. ⌜ Extracted (graph (now (needs .entry)) (now (gives .entry)) (now (members .entry)) (now (words .entry)) start all) k goal may must why (now (plan .exit)) r × Nogoods (graph (now (needs .entry)) (now (gives .entry)) (now (members .entry)) (now (words .entry)) start all) (now (table .exit)) ⌝ }
+    requires { ⌜ Fine (graph (now needs) (now gives) (now members) (now words) start) (now carriers) × Nogoods (graph (now needs) (now gives) (now members) (now words) start) (now table) ⌝ }
+    requires { ⌜ (k ≤ length (now members)) × (k ≤ length (now plan)) × (goal ⊆ allFacts) × (may ⊆ allFacts) × (why ⊆ goal) ⌝ }
+    ensures { λ r. ⌜ Extracted (graph (now (needs .entry)) (now (gives .entry)) (now (members .entry)) (now (words .entry)) start) k goal may must why (now (plan .exit)) r × Nogoods (graph (now (needs .entry)) (now (gives .entry)) (now (members .entry)) (now (words .entry)) start) (now (table .exit)) ⌝ }
 {
     if k == 0 {
         let lack = word::without(goal, start);
@@ -132,9 +156,9 @@ pub fn extract(
         }
         return Outcome::Refuted(word::more(why, word::lowest(lack)));
     }
-    let first = whole(may, all, must);
+    let first = whole(may, must);
     let seen = nogoods::lookup(table, k, goal, first);
-    if let Outcome::Refuted(c) = seen {
+    if let Known::Nogood(c) = seen {
         return Outcome::Refuted(c | why);
     }
     let j = k - 1;
@@ -154,12 +178,11 @@ pub fn extract(
         members,
         words,
         start,
-        all,
         plan,
         table,
         j,
         wanted,
-        all,
+        ALL_FACTS,
         0,
         0,
     );
@@ -174,7 +197,6 @@ pub fn extract(
         members,
         words,
         start,
-        all,
         plan,
         table,
         j,
@@ -193,7 +215,6 @@ pub fn extract(
             members,
             words,
             start,
-            all,
             plan,
             table,
             k,

@@ -1,10 +1,28 @@
-// The table of nogoods: facts that so many rounds do not reach. Entry 0 says where the last was stored.
+// The table of nogoods, Graphplan's memoized goals: sets of facts that a count of rounds does not reach.
+//
+// Entry 0 is the place of the last nogood, and 0 if there is none. The entries from 1 on are a ring: the
+// place after the last entry is 1 again, so that a full table loses its oldest nogood. An entry is a
+// count of rounds times 2^32, plus a set of facts: no plan of that many rounds reaches them all. Then
+// none of fewer rounds does, and none reaches a set that has all of these facts. An entry of 0 is free.
+//
+// What the table forgets costs time and changes no answer.
 ghost use Prim.Native.Nat.{_^_, _≤_, _<_};
 ghost use Rattle.extraction.specs.Extraction.{Noted, StoredIf};
-use crate::Outcome;
 use sets::word;
 
-// Where the last was stored; 0 where none was.
+// A search counts as long while its last nogood is at this place of the table or after it.
+const MANY: u64 = 1024;
+
+// An entry is a count of rounds times this, plus a set of facts.
+const ROUND: u64 = 0x1_0000_0000;
+
+// What the table knows of some facts: a part of them that is a nogood, or nothing.
+pub enum Known {
+    Nogood(u64),
+    Nothing,
+}
+
+// The place of the last nogood; 0 if there is none.
 pub fn stored(table: &[u64]) -> u64 {
     if table.len() == 0 {
         return 0;
@@ -19,33 +37,33 @@ pub fn many(table: &[u64], before: u64) -> bool {
     if last == before {
         return false;
     }
-    1024 <= last
+    MANY <= last
 }
 
-// An entry for k rounds or more whose facts are all among these. Nothing is looked up where `on` is
-// false.
-pub fn lookup(table: &[u64], k: usize, facts: u64, on: bool) -> Outcome
+// The first nogood for k rounds or more whose facts are all among these. Nothing is looked up if `on`
+// is false.
+pub fn lookup(table: &[u64], k: usize, facts: u64, on: bool) -> Known
     ensures { λ r. ⌜ Noted (now (table .entry)) k facts r ⌝ }
 {
     if !on {
-        return Outcome::Made;
+        return Known::Nothing;
     }
     let mut i: usize = 1;
     while i < table.len() {
         let word = table[i];
         if word == 0 {
-            return Outcome::Made;
+            return Known::Nothing;
         }
-        let r = (word >> 32) as usize;
+        let r = (word / ROUND) as usize;
         if k <= r {
-            let c = word % 0x1_0000_0000;
+            let c = word % ROUND;
             if word::without(c, facts) == 0 {
-                return Outcome::Refuted(c);
+                return Known::Nogood(c);
             }
         }
         i += 1;
     }
-    Outcome::Made
+    Known::Nothing
 }
 
 // The place after the last, from 1 to n - 1 and from the front again.
@@ -59,8 +77,8 @@ fn after(last: u64, n: usize) -> usize
     1
 }
 
-// Enters that k rounds do not reach these facts, over the oldest entry where the table is full. Nothing
-// is entered where `on` is false.
+// Enters that k rounds do not reach these facts, over the oldest entry if the table is full. Nothing is
+// entered if `on` is false.
 pub fn store(table: &mut [u64], k: usize, facts: u64, on: bool)
     requires { ⌜ (k ≤ 16) × (facts < 2 ^ 32) ⌝ }
     ensures { λ r. ⌜ StoredIf on k facts (now (table .entry)) (now (table .exit)) ⌝ }
@@ -75,5 +93,5 @@ pub fn store(table: &mut [u64], k: usize, facts: u64, on: bool)
     let last = table[0];
     let at = after(last, n);
     table[0] = at as u64;
-    table[at] = (k as u64) * 0x1_0000_0000 + facts;
+    table[at] = (k as u64) * ROUND + facts;
 }

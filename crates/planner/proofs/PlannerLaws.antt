@@ -2,16 +2,16 @@
 use mathlib.Core.Path.{_≡_, refl, sym, ap, subst, _∙_}
 use mathlib.Core.Bool.{_||_, or-self}
 use mathlib.Core.List.{List, [], _∷_, _++_}
-use Prim.Native.Nat.{ℕ, zero, suc, _+_, _-_, _^_, _≤_, _<_}
+use Prim.Native.Nat.{ℕ, zero, suc, _+_, _-_, _*_, _^_, _≤_, _<_}
 use native.Mathlib.Decide.{decLt, decLe}
 use native.Mathlib.Omega.{arith}
 use lib.Dec.{eqb}
-use lib.ListN.{length, getD, take}
+use lib.ListN.{length, getD, take, drop}
 use lib.Pow.{pow-lt}
 use lib.Seq.{take-suc, length-take-le, getD-take}
 use borrow.Author.Tests.{lt-ltb, le-ltb}
 use Rattle.sets.specs.Ranges.{num, listTo}
-use Rattle.sets.specs.Sets.{bit, _⊆_, member, full, gathered}
+use Rattle.sets.specs.Sets.{bit, _⊆_, member, gathered}
 use Rattle.sets.proofs.Ranges.{list-length, list-at, list-past}
 use Rattle.sets.proofs.Bits.{ext-below, num-member, part-full}
 use Rattle.sets.proofs.Made.{set-below, set-bit}
@@ -28,11 +28,28 @@ use Rattle.planning.proofs.WordLaws.{words-length, rounds-words, rounds-turned}
 use Rattle.planning.proofs.LayerLaws.{roomy}
 use Rattle.planning.proofs.BackLaws.{reaches-plan, forth, back}
 use Rattle.supports.specs.Questions.{rowOf}
-use Rattle.extraction.specs.Extraction.{Graph, graph, Picks, needsOf, Back, Held, Fine}
+use Rattle.extraction.specs.Extraction.{allFacts, Graph, graph, Picks, needsOf, Back, Held, Fine}
 use Rattle.planner.specs.Planner.{plannedBy, Words}
-use Rattle.planner.specs.Tabulated.{roundAfter, Tabulated, Laid, Unplanned, Searched}
+use Rattle.planner.specs.Tabulated.{roundAfter, Layered, Laid}
 use Rattle.planner.specs.declared.Planned.{Planned}
 use Rattle.planner.specs.declared.Planned.the-variants as Planned
+
+-- ---- what the search works on, and what it finds
+
+-- the tables of a graph are those of the round layers 1 to h
+pub record Tabulated (F : Fitting) (h : ℕ) (T : Graph) : Type 0 where
+  pub sized : Sized 32 F
+  pub start : T .start ≡ F .start
+  pub needs : T .needs ≡ listTo 64 (vertices 32 F .needs)
+  pub gives : T .gives ≡ listTo 64 (vertices 32 F .gives)
+  pub members : T .members ≡ listTo h (λ j. roundAfter F j .members)
+  pub rows : (j : ℕ) → j < h → rowOf (T .words) j ≡ roundAfter F j .words
+  pub long : 64 * h ≤ length (T .words)
+
+-- the fewest rounds in which a goal can be worked back, with such selections; or that this cannot be done within the horizon
+abbrev pub Searched : Graph → ℕ → ℕ → List ℕ → List ℕ → Planned → Type 0
+Searched T h g old new (Planned.Rounds k) = (k ≤ h) × Held T k g new × ((i : ℕ) → i < k → Back T i g → ⊥) × (drop k new ≡ drop k old)
+Searched T h g old new Planned.Nothing = (new ≡ old) × ((i : ℕ) → i ≤ h → Back T i g → ⊥)
 
 -- ---- tables
 
@@ -127,9 +144,8 @@ module _ (F : Fitting) (h : ℕ) (T : Graph) (ok : Tabulated F h T) where
       (rs ++ (stepsOf 32 x ∷ []), forth 32 F (ok .sized) j g x rs (picks-selects j g x (omega arith) p) (subst (λ (n : ℕ). Reaches F j n rs) (needed-same x) r))
 
   -- so that without a plan no count of rounds works the goal back
-  pub unplanned : (n g : ℕ) → n ≡ h → F .goal ≡ g → Unplanned F T n g
-  unplanned n g many e none k l b =
-      let (rs, r) = back-reaches k (F .goal) (omega arith) (subst (Back T k) (sym e) b) in none rs (reaches-plan F k rs r)
+  pub unplanned : ((rs : List ℕ) → Plan F rs → ⊥) → (i : ℕ) → i ≤ h → Back T i (F .goal) → ⊥
+  unplanned none i l b = let (rs, r) = back-reaches i (F .goal) l b in none rs (reaches-plan F i rs r)
 
   pub reaches-back : (k g : ℕ) → k ≤ h → (rs : List ℕ) → Reaches F k g rs → Back T k g
   unfolding Back run
@@ -170,54 +186,58 @@ module _ (F : Fitting) (h : ℕ) (T : Graph) (ok : Tabulated F h T) where
 
   pub fine : (carriers : List ℕ) → h ≤ 16 → carriers ≡ transposed 64 (T .gives) → Fine T carriers
   fine carriers few e = record {
-    wide = omega (arith, ok .all);
-    inside = λ v. rw (ok .all, needs-at v) (part-full 32 (vertices 32 F .needs v) (vertex-needs F (ok .sized) v));
+    inside = λ v. rw (needs-at v) (part-full 32 (vertices 32 F .needs v) (vertex-needs F (ok .sized) v));
     short = omega (arith, members-length);
     rows = omega (arith, members-length, ok .long);
     tabled = λ j l. record { shared = shared j (omega (arith, members-length)); carried = e };
     grows = λ k r g l m b. later (r - k) k r g (omega arith) (omega (arith, members-length)) b;
   }
 
-  pub goal-inside : F .goal ⊆ T .all
-  goal-inside = rw (ok .all) (part-full 32 (F .goal) (roomy 32 F (ok .sized) (F .goal) (ok .sized .goal)))
+  pub goal-inside : F .goal ⊆ allFacts
+  goal-inside = part-full 32 (F .goal) (roomy 32 F (ok .sized) (F .goal) (ok .sized .goal))
 
   -- ---- what the search answers
 
   plan-back : (rs : List ℕ) → Plan F rs → length rs ≤ h → Back T (length rs) (F .goal)
   plan-back rs p l = reaches-back (length rs) (F .goal) l rs (record { rounds = p .rounds; reached = p .reached; many = refl })
 
-  pub solved-count : (g : ℕ) (old new : List ℕ) (r : Planned) → F .goal ≡ g → Searched T h g old new r → r ≡ plannedBy (fewest F h)
-  solved-count g old new (Planned.Rounds k) e (l, held, fewer, keep) = sym (ap plannedBy (some-fewest F h k l plan (λ rs p. least rs p (decLe k (length rs)))))
+  pub solved-count : (old new : List ℕ) (r : Planned) → Searched T h (F .goal) old new r → r ≡ plannedBy (fewest F h)
+  solved-count old new (Planned.Rounds k) (l, held, fewer, keep) = sym (ap plannedBy (some-fewest F h k l plan (λ rs p. least rs p (decLe k (length rs)))))
     where
       plan : PlanOf F k
       plan =
-          let (rs, r) = back-reaches k g l (held-back k g new held) in
-          (rs, r .many, record { rounds = r .rounds; reached = subst (λ (x : ℕ). x ⊆ run F (F .start) rs) (sym e) (r .reached) })
+          let (rs, r) = back-reaches k (F .goal) l (held-back k (F .goal) new held) in
+          (rs, r .many, record { rounds = r .rounds; reached = r .reached })
 
       least : (rs : List ℕ) → Plan F rs → Dec (k ≤ length rs) → k ≤ length rs
       least rs p (yes m) = m
-      least rs p (no m) = absurd (fewer (length rs) (omega arith) (subst (Back T (length rs)) e (plan-back rs p (omega arith))))
-  solved-count g old new Planned.Nothing e (same, none) = sym (ap plannedBy (none-fewest F h (λ rs p l. none (length rs) l (subst (Back T (length rs)) e (plan-back rs p l)))))
+      least rs p (no m) = absurd (fewer (length rs) (omega arith) (plan-back rs p (omega arith)))
+  solved-count old new Planned.Nothing (same, none) = sym (ap plannedBy (none-fewest F h (λ rs p l. none (length rs) l (plan-back rs p l))))
 
-  pub solved-words : (g : ℕ) (old new : List ℕ) (r : Planned) → F .goal ≡ g → Searched T h g old new r → h ≤ length new → Words F old new r
-  solved-words g old new (Planned.Rounds k) e (l, held, fewer, keep) m =
-      let r = held-reaches k g new l (omega arith) held in
-      (record { rounds = r .rounds; reached = subst (λ (x : ℕ). x ⊆ run F (F .start) (take k new)) (sym e) (r .reached) }, keep)
-  solved-words g old new Planned.Nothing e (same, none) m = same
+  pub solved-words : (old new : List ℕ) (r : Planned) → Searched T h (F .goal) old new r → h ≤ length new → Words F old new r
+  solved-words old new (Planned.Rounds k) (l, held, fewer, keep) m =
+      let r = held-reaches k (F .goal) new l (omega arith) held in
+      (record { rounds = r .rounds; reached = r .reached }, keep)
+  solved-words old new Planned.Nothing (same, none) m = same
 
 -- ---- the tables that the code makes: arrays, of which the front is lent
 
-pub tabulated : (F : Fitting) (h : ℕ) (needs gives members front words : List ℕ) (start all : ℕ) → Sized 32 F → h ≤ 16
-    → needs ≡ listTo 64 (vertices 32 F .needs) → gives ≡ listTo 64 (vertices 32 F .gives) → Laid F h members words → front ≡ take h members
-    → start ≡ F .start → all ≡ full 32 → Tabulated F h (graph needs gives front words start all)
-tabulated F h needs gives members front words start all sized few en eg laid ef es ea = record {
-  sized = sized;
-  start = es;
-  all = ea;
-  needs = en;
-  gives = eg;
-  members = ef ∙ filled-end h (λ j. roundAfter F j .members) (take h members) h
+pub layered : (F : Fitting) (h : ℕ) (members front words : List ℕ) → h ≤ 16 → Laid F h members words → front ≡ take h members → Layered F h front words
+layered F h members front words few laid e = record {
+  vertices = e ∙ filled-end h (λ j. roundAfter F j .members) (take h members) h
       (length-take-le h members (omega (arith, laid .few)), λ j l. getD-take h members j 0 l ∙ laid .vertices j l) refl;
   rows = laid .rows;
   long = omega (arith, laid .many);
+}
+
+pub tabulated : (F : Fitting) (h : ℕ) (needs gives members words : List ℕ) → Sized 32 F → needs ≡ listTo 64 (vertices 32 F .needs) → gives ≡ listTo 64 (vertices 32 F .gives)
+    → Layered F h members words → Tabulated F h (graph needs gives members words (F .start))
+tabulated F h needs gives members words sized en eg lay = record {
+  sized = sized;
+  start = refl;
+  needs = en;
+  gives = eg;
+  members = lay .vertices;
+  rows = lay .rows;
+  long = lay .long;
 }

@@ -6,7 +6,7 @@ use native.Mathlib.Omega.{arith}
 use lib.ListN.{length, getD, drop, set}
 use lib.Seq.{getD-set-same, getD-set-other, drop-set-lt}
 use Rattle.sets.proofs.Ranges.{one-more}
-use Rattle.extraction.specs.Extraction.{Graph, needsOf, Back, Held, Fine, Refutes}
+use Rattle.extraction.specs.Extraction.{allFacts, Graph, needsOf, Back, Held, Fine, Refutes}
 use Rattle.extraction.proofs.ExtractLaws.{back-part, refuses-whole}
 
 -- one word more is copied: the words before it and those from k on are other words
@@ -27,7 +27,7 @@ module _ (T : Graph) where
   held-same (suc j) g p q same (x, c, e, h) = (x, c, same j (omega arith) ∙ e, held-same j (needsOf T x) p q (λ i l. same i (omega arith)) h)
 
   -- one count more is refused: what works the goal back would work back the refused part of it
-  pub refused-more : (carriers : List ℕ) → Fine T carriers → (k g e : ℕ) → Refutes T k g (T .all) 0 0 e → ((i : ℕ) → i < k → Back T i g → ⊥)
+  pub refused-more : (carriers : List ℕ) → Fine T carriers → (k g e : ℕ) → Refutes T k g allFacts 0 0 e → ((i : ℕ) → i < k → Back T i g → ⊥)
       → (i : ℕ) → i < k + 1 → Back T i g → ⊥
   refused-more carriers fine k g e r none =
       let (part, out) = refuses-whole T carriers fine k g 0 e r in

@@ -12,7 +12,9 @@ mod search;
 mod tabulated;
 
 use jobfile::ReadFitting;
-use sets::table;
+
+// The most rounds of a plan, and so the most round layers.
+const ROUNDS: usize = 16;
 
 // How many rounds a plan has, or that there is no plan.
 pub enum Planned {
@@ -27,25 +29,9 @@ pub fn plan(job: ReadFitting, out: &mut [u32]) -> Planned
     ensures { λ r. ⌜ r ≡ plannedBy (fewest (fittingIn job) (job .horizon)) ⌝ }
     ensures { λ r. ⌜ Words (fittingIn job) (now (out .entry)) (now (out .exit)) r ⌝ }
 {
-    let a = job.needs;
-    let b = job.gives;
-    let needs = layers::with_keepers(&a);
-    let gives = layers::with_keepers(&b);
-    let carriers = table::transposed(&gives);
     let made = tabulated::round_layers(job);
     let members = made.members;
     let words = made.words;
     let h = job.horizon;
-    search::shortest(
-        job,
-        &needs,
-        &gives,
-        &carriers,
-        &members[0..h],
-        &words,
-        job.start,
-        0xffff_ffff,
-        job.goal,
-        out,
-    )
+    search::shortest(job, &members[0..h], &words, out)
 }

@@ -1,14 +1,25 @@
 // The search over the count of rounds.
+ghost use mathlib.Core.Path.{_≡_};
 ghost use Prim.Native.Nat.{_≤_};
 ghost use lib.ListN.{length};
-ghost use Rattle.sets.specs.Sets.{_⊆_};
-ghost use Rattle.extraction.specs.Extraction.{graph, Fine};
+ghost use Rattle.planning.specs.Rounds.{fewest};
+ghost use Rattle.planning.specs.Back.{Sized};
 ghost use Rattle.planning.specs.Meaning.{fittingIn};
 ghost use Rattle.reachability.specs.States.{Hopeless};
-ghost use Rattle.planner.specs.Tabulated.{Copied, Unplanned, Searched};
+ghost use Rattle.planner.specs.Planner.{plannedBy, Words};
+ghost use Rattle.planner.specs.Tabulated.{Layered, Copied};
 use crate::Planned;
+use crate::ROUNDS;
+use extraction::ALL_FACTS;
 use extraction::Outcome;
 use jobfile::ReadFitting;
+use sets::table;
+
+// The words of the table of nogoods: the place of the last one, and 8,191 nogoods.
+const TABLE: usize = 8192;
+
+// As the place of the last nogood passes this one, the states are listed.
+const LONG: u64 = 64;
 
 // Copies the first k words.
 fn copy(out: &mut [u32], words: &[u32; 16], k: usize)
@@ -22,57 +33,51 @@ fn copy(out: &mut [u32], words: &[u32; 16], k: usize)
     }
 }
 
-// Whether no plan of any length exists. It is asked as the stored nogoods pass 64: the search is long,
-// and the states may be few. `false` says nothing.
+// Whether no plan of any length exists. It is asked after a count of rounds in which the place of the
+// last nogood, `before` and then `stored`, has passed `LONG`: the search is long, and the states may be
+// few. `false` says nothing.
 fn stuck(job: ReadFitting, before: u64, stored: u64) -> bool
     requires { ⌜ job .steps ≤ 64 ⌝ }
     ensures { λ r. ⌜ Hopeless (fittingIn job) r ⌝ }
 {
-    if before < 64 {
-        if 64 <= stored {
+    if before < LONG {
+        if LONG <= stored {
             return reachability::hopeless(job);
         }
     }
     false
 }
 
-// Extraction for 0, 1, 2 rounds and so on, up to as many as there are layers. The nogoods of one count
-// serve the next ones. The rounds are made in words of our own, since a call that finds no plan writes
-// nothing.
-pub fn shortest(
-    job: ReadFitting,
-    needs: &[u64; 64],
-    gives: &[u64; 64],
-    carriers: &[u64; 64],
-    members: &[u64],
-    words: &[u64],
-    start: u64,
-    all: u64,
-    goal: u64,
-    out: &mut [u32],
-) -> Planned
-    requires { ⌜ Fine (graph (now needs) (now gives) (now members) (now words) start all) (now carriers) × (length (now members) ≤ length (now out)) × (goal ⊆ all) ⌝ }
-    requires { ⌜ (job .steps ≤ 64) × Unplanned (fittingIn job) (graph (now needs) (now gives) (now members) (now words) start all) (length (now members)) goal ⌝ }
-    ensures { λ r. ⌜ Searched (graph (now (needs .entry)) (now (gives .entry)) (now (members .entry)) (now (words .entry)) start all) (length (now (members .entry))) goal (now (out .entry)) (now (out .exit)) r ⌝ }
+// A plan with the fewest rounds, over the members and words of the round layers: extraction for 0, 1, 2
+// rounds and so on, up to as many as there are layers. The nogoods of one count serve the next ones. The
+// rounds are made in words of our own, since a call that finds no plan writes nothing.
+pub fn shortest(job: ReadFitting, members: &[u64], words: &[u64], out: &mut [u32]) -> Planned
+    requires { ⌜ Sized 32 (fittingIn job) × (job .horizon ≤ 16) × (job .horizon ≤ length (now out)) × Layered (fittingIn job) (job .horizon) (now members) (now words) ⌝ }
+    ensures { λ r. ⌜ r ≡ plannedBy (fewest (fittingIn job) (job .horizon)) ⌝ }
+    ensures { λ r. ⌜ Words (fittingIn job) (now (out .entry)) (now (out .exit)) r ⌝ }
 {
-    let mut made: [u32; 16] = [0; 16];
-    let mut table: [u64; 8192] = [0; 8192];
+    let a = job.needs;
+    let b = job.gives;
+    let needs = layers::with_keepers(&a);
+    let gives = layers::with_keepers(&b);
+    let carriers = table::transposed(&gives);
+    let mut made: [u32; ROUNDS] = [0; ROUNDS];
+    let mut table: [u64; TABLE] = [0; TABLE];
     let mut k: usize = 0;
     while k <= members.len() {
         let before = table[0];
         let outcome = extraction::extract(
-            needs,
-            gives,
-            carriers,
+            &needs,
+            &gives,
+            &carriers,
             members,
             words,
-            start,
-            all,
+            job.start,
             &mut made,
             &mut table,
             k,
-            goal,
-            all,
+            job.goal,
+            ALL_FACTS,
             0,
             0,
         );

@@ -4,13 +4,17 @@ ghost use lib.ListN.{length};
 ghost use Rattle.planning.specs.Back.{Sized};
 ghost use Rattle.planning.specs.Meaning.{fittingIn};
 ghost use Rattle.planner.specs.Tabulated.{Laid, Put};
+use crate::ROUNDS;
 use jobfile::ReadFitting;
 use layers::Layer;
 
-// The vertices of each round layer, and 64 mutex words for each.
+// The mutex words of all round layers: 64 for each, one for each vertex.
+const WORDS: usize = 64 * ROUNDS;
+
+// The vertices of each round layer, and its mutex words.
 pub struct RoundLayers {
-    pub members: [u64; 16],
-    pub words: [u64; 1024],
+    pub members: [u64; ROUNDS],
+    pub words: [u64; WORDS],
 }
 
 // Puts the words of round layer j + 1 in their place.
@@ -38,8 +42,8 @@ pub fn round_layers(job: ReadFitting) -> RoundLayers
     let needs = layers::with_keepers(&a);
     let gives = layers::with_keepers(&b);
     let takes = layers::without_keepers(&c);
-    let mut members: [u64; 16] = [0; 16];
-    let mut words: [u64; 1024] = [0; 1024];
+    let mut members: [u64; ROUNDS] = [0; ROUNDS];
+    let mut words: [u64; WORDS] = [0; WORDS];
     let mut facts = Layer {
         members: job.start,
         words: [0; 64],

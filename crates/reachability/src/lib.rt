@@ -12,7 +12,26 @@ ghost use Rattle.reachability.specs.States.{Hopeless, Placed, Entered, T
 use jobfile::ReadFitting;
 use sets::word;
 
-// Where a state stands in the table of slots: it is listed, it may be entered at a slot, or there is no
+// The most states that are listed.
+const STATES: usize = 8192;
+
+// The slots of the hash table by which a state is found in the list: four for each listed state.
+const SLOTS: usize = 32768;
+
+// The most slots that are looked at for one state.
+const PROBES: usize = 16;
+
+// The slot of a state is made from its bits below this one, which are those of the 32 facts.
+const FACTS: u64 = 0x1_0000_0000;
+
+// The slot is made from the product with this prime, which is near 2^32 divided by the golden ratio:
+// states whose numbers are close together get slots that are far apart.
+const MULTIPLIER: u64 = 0x9e37_79b1;
+
+// Of the product, the bits from this one on tell the slot; those below it depend on fewer facts.
+const LOWEST: u64 = 0x100_0000;
+
+// What the table of slots says of a state: it is listed, it may be entered at a slot, or there is no
 // free slot near by.
 enum Place {
     Known,
@@ -31,8 +50,8 @@ fn after(facts: u64, gives: u64, takes: u64) -> u64
 fn slot_of(state: u64) -> usize
     ensures { λ r. ⌜ r < 32768 ⌝ }
 {
-    let mixed = (state % 0x1_0000_0000) * 0x9e37_79b1;
-    (mixed / 0x100_0000 % 32768) as usize
+    let mixed = (state % FACTS) * MULTIPLIER;
+    (mixed / LOWEST % (SLOTS as u64)) as usize
 }
 
 // The slot after this one, the first after the last.
@@ -40,7 +59,7 @@ fn next_slot(at: usize) -> usize
     requires { ⌜ at < 32768 ⌝ }
     ensures { λ r. ⌜ r < 32768 ⌝ }
 {
-    if at == 32767 {
+    if at == SLOTS - 1 {
         return 0;
     }
     at + 1
@@ -53,14 +72,15 @@ fn wide(x: u16) -> usize
     x as usize
 }
 
-// Looks at 16 slots. A slot has the number of a state, counted from 1, and 0 where it is free; what it
-// says is believed only where that state is the one looked for.
+// Looks at `PROBES` slots, from one on that the bits of the state tell. A slot has the number of a
+// state, counted from 1, and 0 if it is free; what it says is believed only if that state is the one
+// looked for.
 fn place_of(states: &[u64], slots: &[u16], count: usize, state: u64) -> Place
     requires { ⌜ (count ≤ length (now states)) × (length (now slots) ≡ 32768) ⌝ }
     ensures { λ r. ⌜ Placed (now (states .entry)) (length (now (slots .entry))) count state r ⌝ }
 {
     let mut at = slot_of(state);
-    let mut left: usize = 16;
+    let mut left: usize = PROBES;
     while 0 < left {
         let number = wide(slots[at]);
         if number == 0 {
@@ -77,8 +97,8 @@ fn place_of(states: &[u64], slots: &[u16], count: usize, state: u64) -> Place
     Place::Crowded
 }
 
-// Enters a state into the list unless it is there. The answer is how many there are now, and 0 where
-// there is no room.
+// Enters a state into the list unless it is there. The answer is how many there are now, and 0 if there
+// is no room.
 fn insert(states: &mut [u64], slots: &mut [u16], count: usize, state: u64) -> usize
     requires { ⌜ (count ≤ length (now states)) × (length (now states) ≡ 8192) × (length (now slots) ≡ 32768) ⌝ }
     ensures { λ r. ⌜ Entered (now (states .entry)) (now (states .exit)) count state r ⌝ }
@@ -87,7 +107,7 @@ fn insert(states: &mut [u64], slots: &mut [u16], count: usize, state: u64) -> us
     match place {
         Place::Known => count,
         Place::Free(at) => {
-            if count == 8192 {
+            if count == STATES {
                 return 0;
             }
             states[count] = state;
@@ -98,7 +118,7 @@ fn insert(states: &mut [u64], slots: &mut [u16], count: usize, state: u64) -> us
     }
 }
 
-// Enters what a step leads to, where all that it needs is there.
+// Enters what a step leads to, if all that it needs is there.
 fn try_step(
     states: &mut [u64],
     slots: &mut [u16],
@@ -145,8 +165,16 @@ fn expand(
     n
 }
 
-// Whether no plan of any length exists: the list of states has an end, and none of them has the goal.
-// `false` says nothing.
+// Unsolvable by reachability: whether the states that single steps lead to show that `job` has no plan.
+//
+// These states are listed breadth first, from the start on: state i is tried for the goal, and then
+// what each step that can be made in it leads to is put at the end of the list, unless it is there. The
+// steps of a round can be made one after the other, so that single steps reach what rounds reach.
+//
+// What falls is the count of the states that could still have their turn, `STATES` - i. `true` says that
+// the list has an end and that no state of it has the goal: then no plan of any length exists. `false`
+// says nothing: a state has the goal, or there was no room for one. So this can end a search early that
+// would find no plan, and changes no answer.
 pub fn hopeless(job: ReadFitting) -> bool
     requires { ⌜ job .steps ≤ 64 ⌝ }
     ensures { λ r. ⌜ Hopeless (fittingIn job) r ⌝ }
@@ -154,8 +182,8 @@ pub fn hopeless(job: ReadFitting) -> bool
     let needs = job.needs;
     let gives = job.gives;
     let takes = job.takes;
-    let mut states: [u64; 8192] = [0; 8192];
-    let mut slots: [u16; 32768] = [0; 32768];
+    let mut states: [u64; STATES] = [0; STATES];
+    let mut slots: [u16; SLOTS] = [0; SLOTS];
     let mut count = insert(&mut states, &mut slots, 0, job.start);
     if count == 0 {
         return false;

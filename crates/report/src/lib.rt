@@ -12,7 +12,10 @@ use text::Page;
 
 // What comes of a file: a selection with the set aside, how many rounds a plan has, or a refusal.
 pub enum OutcomeAnswer {
-    Chosen(ArticleSet, ArticleSet),
+    Chosen {
+        selection: ArticleSet,
+        aside: ArticleSet,
+    },
     Rounds(usize),
     Refused(Refusal),
 }
@@ -23,7 +26,7 @@ fn chosen(file: &[u8]) -> OutcomeAnswer
 {
     let answer = calls::offer(file);
     match answer {
-        ChoiceAnswer::Chosen(x, aside) => OutcomeAnswer::Chosen(x, aside),
+        ChoiceAnswer::Chosen { selection, aside } => OutcomeAnswer::Chosen { selection, aside },
         ChoiceAnswer::Refused(refusal) => OutcomeAnswer::Refused(refusal),
     }
 }
@@ -49,7 +52,7 @@ fn text(outcome: OutcomeAnswer, words: &[u32; 16]) -> Page
     ensures { λ r. ⌜ shown r ≡ textOf (outcomeTold outcome) (now (words .entry)) ⌝ }
 {
     match outcome {
-        OutcomeAnswer::Chosen(x, aside) => text::chosen(x.bits, aside.bits),
+        OutcomeAnswer::Chosen { selection, aside } => text::chosen(selection.bits, aside.bits),
         OutcomeAnswer::Rounds(k) => text::rounds(k, words),
         OutcomeAnswer::Refused(refusal) => {
             let reason = refusal.reason;

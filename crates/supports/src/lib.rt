@@ -1,5 +1,6 @@
 // What plan extraction asks of one round layer: which of its vertices the facts open, a selection of it
-// for the facts, and facts that no selection covers. Each question is one of the choice's.
+// for the facts (supporting actions, with keepers for no-ops), and facts that no selection covers. Each
+// question is one of the choice's.
 ghost use mathlib.Core.Path.{_≡_};
 ghost use Prim.Native.Nat.{ℕ, _+_, _*_, _≤_, _<_};
 ghost use lib.ListN.{length, getD};
@@ -65,7 +66,9 @@ pub fn ask(
     choice::smallest(gives, &mutex, carriers, allowed, facts, 0)
 }
 
-// Of the facts e, which no selection covers, those without b if none covers them either.
+// One turn of `explain`: of the facts e, which no selection covers, those without b if no selection
+// covers these either, and else e as it is. b is a fact outside `why`; the other arguments are those of
+// `explain`, with the mutex words of the one round layer.
 fn fewer(
     gives: &[u64; 64],
     carriers: &[u64; 64],
@@ -87,8 +90,14 @@ fn fewer(
     less
 }
 
-// Of the facts, which no selection covers, a part with those of why that none covers: the others are
-// dropped one at a time where that can be.
+// A minimal explanation, by deletion: why no selection of round layer j + 1 covers the facts. `gives`
+// has what each vertex gives, `carriers` the vertices that give each fact, `words` the mutex words of
+// all layers. `allowed` are the vertices that may be taken, and `why` are facts that the explanation
+// has to have.
+//
+// Each fact outside `why` is left out in turn, and stays out if no selection covers the others either.
+// What falls is the set of the facts whose turn is still to come, as a number. The answer is a part of
+// the facts, with all of `why`, that no selection covers; no fact outside `why` can be left out of it.
 pub fn explain(
     gives: &[u64; 64],
     carriers: &[u64; 64],

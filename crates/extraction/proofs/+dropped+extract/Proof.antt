@@ -16,7 +16,7 @@ use Rattle.sets.proofs.Bits.{bit-empty, bit-without, part-refl, part-in, part-l
 use Rattle.network.specs.Network.{listed, Cover}
 use Rattle.supports.specs.Questions.{rowOf}
 use Rattle.supports.proofs.LayerLaws.{lowest-one, asked-none}
-use Rattle.extraction.specs.Extraction.{Graph, graph, Back, Held, Nogoods, Noted, Extracted}
+use Rattle.extraction.specs.Extraction.{allFacts, Graph, graph, Back, Held, Nogoods, Noted, Extracted}
 use Rattle.extraction.proofs.NogoodLaws.{noted-refutes}
 use Rattle.extraction.proofs.ExtractLaws.{asked-set, held-more, bottom-held, bottom-lacks, blocked-refuses, refuses-blocked, known-refuses, open-picks, open-needs, leaf, Turning, turning-start, turning-more, turning-last, layer-asked, entry-asked, refuses-whole, stored-refused}
 use borrow.Fn.Kinds.{In}
@@ -46,10 +46,10 @@ use Rattle.extraction.proofs.+dropped+extract.{statement}
 use Rattle.extraction.proofs.+dropped+extract.Tie.{close}
 
 abbrev μ-dropped : Measures 7 dropped-kinds.ps ℕ
-μ-dropped κs a = a .1 .1 .1 .1 .1 .1 .1 .1 .1 .0 * 2 ^ 33 + 2 ^ 32
+μ-dropped κs a = a .1 .1 .1 .1 .1 .1 .1 .1 .0 * 2 ^ 33 + 2 ^ 32
 
 abbrev μ-extract : Measures 7 extract-kinds.ps ℕ
-μ-extract κs a = a .1 .1 .1 .1 .1 .1 .1 .1 .1 .0 * 2 ^ 33 + a .1 .1 .1 .1 .1 .1 .1 .1 .1 .1 .1 .0
+μ-extract κs a = a .1 .1 .1 .1 .1 .1 .1 .1 .0 * 2 ^ 33 + a .1 .1 .1 .1 .1 .1 .1 .1 .1 .1 .0
 
 abbrev dropped-at : ℕ → In 7 dropped-kinds.ps
 dropped-at t = and 7 dropped-kinds.ps (is 7 dropped-kinds.ps μ-dropped t) dropped.Pre
@@ -78,12 +78,12 @@ dropped-calls t = (
 )
 
 abbrev dropped-Inv-loop : dropped-lts.InvT-loop
-dropped-Inv-loop needs gives carriers members words start all plan₀ table₀ j refuted before least₀ left₀ plan table least left =
-    (length plan ≡ length plan₀) × (length table ≡ length table₀) × Nogoods (graph needs gives members words start all) table
-    × (least ⊆ refuted) × (Back (graph needs gives members words start all) j least → ⊥) × (left ⊆ least)
+dropped-Inv-loop needs gives carriers members words start plan₀ table₀ j refuted before least₀ left₀ plan table least left =
+    (length plan ≡ length plan₀) × (length table ≡ length table₀) × Nogoods (graph needs gives members words start) table
+    × (least ⊆ refuted) × (Back (graph needs gives members words start) j least → ⊥) × (left ⊆ least)
 
 abbrev dropped-μ-loop : dropped-lts.MeasureT-loop
-dropped-μ-loop needs gives carriers members words start all plan₀ table₀ j refuted before least₀ left₀ plan table least left =
+dropped-μ-loop needs gives carriers members words start plan₀ table₀ j refuted before least₀ left₀ plan table least left =
     left
 
 dropped-many-requires : (t : ℕ) → dropped-lts.Need-many-requires (dropped-calls t) (dropped-at t) dropped.Post dropped-Inv-loop dropped-μ-loop
@@ -95,7 +95,7 @@ dropped-same-length t c = search needs
 dropped-returns : (t : ℕ) → dropped-lts.Need-returns (dropped-calls t) (dropped-at t) dropped.Post dropped-Inv-loop dropped-μ-loop
 dropped-returns t c =
     let a = c .before .before .before .before .before .before .before .args in
-    let T = graph (now (a .needs)) (now (a .gives)) (now (a .members)) (now (a .words)) (a .start) (a .all) in
+    let T = graph (now (a .needs)) (now (a .gives)) (now (a .members)) (now (a .words)) (a .start) in
     let (fine, known) = c .before .before .before .before .before .before .before .pre .1 .0 in
     let (few, room, (inside, none)) = c .before .before .before .before .before .before .before .pre .1 .1 in
     (part-refl (a .refuted), (inside, none), known)
@@ -106,7 +106,7 @@ dropped-droppable-requires t c κs = search needs
 dropped-loop-holds : (t : ℕ) → dropped-lts.Need-loop-holds (dropped-calls t) (dropped-at t) dropped.Post dropped-Inv-loop dropped-μ-loop
 dropped-loop-holds t c =
     let a = c .before .before .before .before .before .before .before .before .args in
-    let T = graph (now (a .needs)) (now (a .gives)) (now (a .members)) (now (a .words)) (a .start) (a .all) in
+    let T = graph (now (a .needs)) (now (a .gives)) (now (a .members)) (now (a .words)) (a .start) in
     let (fine, known) = c .before .before .before .before .before .before .before .before .pre .1 .0 in
     let (few, room, (inside, none)) = c .before .before .before .before .before .before .before .before .pre .1 .1 in
     (refl, refl, known, part-refl (a .refuted), none, c .droppable .ensures .1)
@@ -123,16 +123,16 @@ dropped-less-requires-2 t c κs = search needs
 dropped-extract-requires : (t : ℕ) → dropped-lts.Need-extract-requires (dropped-calls t) (dropped-at t) dropped.Post dropped-Inv-loop dropped-μ-loop
 dropped-extract-requires t c κs =
     let a = c .before .before .before .before .before .before .before .before .before .before .before .before .before .before .before .args in
-    let T = graph (now (a .needs)) (now (a .gives)) (now (a .members)) (now (a .words)) (a .start) (a .all) in
+    let T = graph (now (a .needs)) (now (a .gives)) (now (a .members)) (now (a .words)) (a .start) in
     let (fine, known) = c .before .before .before .before .before .before .before .before .before .before .before .before .before .before .before .pre .1 .0 in
     let (few, room, (inside, none)) = c .before .before .before .before .before .before .before .before .before .before .before .before .before .before .before .pre .1 .1 in
     let l = c .before .before .before .before .before .before .loop in
     let (plan-kept, table-kept, right, part, out, rest) = l .inv in
     let b = c .before .before .before .before .lowest .result in
     let m = lowest-one 64 (l .left) (c .before .before .before .before .lowest .ensures .0) (c .before .before .before .before .lowest .ensures .1) in
-    let falls : a .j * 2 ^ 33 + a .all < t = omega (arith, c .before .before .before .before .before .before .before .before .before .before .before .before .before .before .before .pre .0, fine .wide) in
-    let goal : c .less2 .result ⊆ a .all = subst (λ (g : ℕ). g ⊆ a .all) (sym (c .less2 .ensures)) (λ i. omega (arith, bit-without (l .least) (2 ^ b) i, part i, inside i)) in
-    (falls, ((fine, right), (few, omega (arith, room, plan-kept), goal, part-refl (a .all), λ i. omega (arith, bit-empty i))))
+    let falls : a .j * 2 ^ 33 + allFacts < t = omega (arith, c .before .before .before .before .before .before .before .before .before .before .before .before .before .before .before .pre .0) in
+    let goal : c .less2 .result ⊆ allFacts = subst (λ (g : ℕ). g ⊆ allFacts) (sym (c .less2 .ensures)) (λ i. omega (arith, bit-without (l .least) (2 ^ b) i, part i, inside i)) in
+    (falls, ((fine, right), (few, omega (arith, room, plan-kept), goal, part-refl allFacts, λ i. omega (arith, bit-empty i))))
 
 dropped-enum-known-inner : (t : ℕ) → dropped-lts.Need-enum-known-inner (dropped-calls t) (dropped-at t) dropped.Post dropped-Inv-loop dropped-μ-loop
 dropped-enum-known-inner t c = search needs
@@ -154,8 +154,8 @@ dropped-loop-again t c =
     let (plan-kept, table-kept, right, part, out, rest) = l .inv in
     let b = c .before .before .before .before .before .before .before .before .before .before .before .lowest .result in
     let m = lowest-one 64 (l .left) (c .before .before .before .before .before .before .before .before .before .before .before .lowest .ensures .0) (c .before .before .before .before .before .before .before .before .before .before .before .lowest .ensures .1) in (
-      omega (arith, c .before .before .before .before .before .before .extract .kept .1 .1 .1 .1 .1 .1 .1 .0, plan-kept),
-      omega (arith, c .before .before .before .before .before .before .extract .kept .1 .1 .1 .1 .1 .1 .1 .1 .0, table-kept),
+      omega (arith, c .before .before .before .before .before .before .extract .kept .1 .1 .1 .1 .1 .1 .0, plan-kept),
+      omega (arith, c .before .before .before .before .before .before .extract .kept .1 .1 .1 .1 .1 .1 .1 .0, table-kept),
       c .before .before .before .before .before .before .extract .ensures .1,
       part,
       out,
@@ -176,7 +176,7 @@ dropped-loop-less-2 t c =
 dropped-loop-again-2 : (t : ℕ) → dropped-lts.Need-loop-again-2 (dropped-calls t) (dropped-at t) dropped.Post dropped-Inv-loop dropped-μ-loop
 dropped-loop-again-2 t c =
     let a = c .before .before .before .before .before .before .before .before .before .before .before .before .before .before .before .before .before .before .before .before .before .before .before .before .args in
-    let T = graph (now (a .needs)) (now (a .gives)) (now (a .members)) (now (a .words)) (a .start) (a .all) in
+    let T = graph (now (a .needs)) (now (a .gives)) (now (a .members)) (now (a .words)) (a .start) in
     let (fine, known) = c .before .before .before .before .before .before .before .before .before .before .before .before .before .before .before .before .before .before .before .before .before .before .before .before .pre .1 .0 in
     let (few, room, (inside, none)) = c .before .before .before .before .before .before .before .before .before .before .before .before .before .before .before .before .before .before .before .before .before .before .before .before .pre .1 .1 in
     let l = c .before .before .before .before .before .before .before .before .before .before .before .before .before .before .before .loop in
@@ -184,11 +184,11 @@ dropped-loop-again-2 t c =
     let b = c .before .before .before .before .before .before .before .before .before .before .before .before .before .lowest .result in
     let m = lowest-one 64 (l .left) (c .before .before .before .before .before .before .before .before .before .before .before .before .before .lowest .ensures .0) (c .before .before .before .before .before .before .before .before .before .before .before .before .before .lowest .ensures .1) in
     let g = c .before .before .inner .given in
-    let q = c .before .before .before .before .before .before .before .before .extract .last .1 .1 .1 .1 .1 .1 .1 .0 in
-    let (sub, gone) = refuses-whole T (now (a .carriers)) fine (a .j) (c .before .before .before .before .before .before .before .before .before .less2 .result) 0 (g .0 .0) (subst (λ r. Extracted T (a .j) (c .before .before .before .before .before .before .before .before .before .less2 .result) (a .all) 0 0 q r) (g .1) (c .before .before .before .before .before .before .before .before .extract .ensures .0)) in
+    let q = c .before .before .before .before .before .before .before .before .extract .last .1 .1 .1 .1 .1 .1 .0 in
+    let (sub, gone) = refuses-whole T (now (a .carriers)) fine (a .j) (c .before .before .before .before .before .before .before .before .before .less2 .result) 0 (g .0 .0) (subst (λ r. Extracted T (a .j) (c .before .before .before .before .before .before .before .before .before .less2 .result) allFacts 0 0 q r) (g .1) (c .before .before .before .before .before .before .before .before .extract .ensures .0)) in
     let fewer : c .before .before .before .before .before .before .before .before .before .less2 .result ⊆ l .least = subst (λ (s : ℕ). s ⊆ l .least) (sym (c .before .before .before .before .before .before .before .before .before .less2 .ensures)) (λ i. omega (arith, bit-without (l .least) (2 ^ b) i)) in (
-      omega (arith, c .before .before .before .before .before .before .before .before .extract .kept .1 .1 .1 .1 .1 .1 .1 .0, plan-kept),
-      omega (arith, c .before .before .before .before .before .before .before .before .extract .kept .1 .1 .1 .1 .1 .1 .1 .1 .0, table-kept),
+      omega (arith, c .before .before .before .before .before .before .before .before .extract .kept .1 .1 .1 .1 .1 .1 .0, plan-kept),
+      omega (arith, c .before .before .before .before .before .before .before .before .extract .kept .1 .1 .1 .1 .1 .1 .1 .0, table-kept),
       c .before .before .before .before .before .before .before .before .extract .ensures .1,
       λ i. le-trans (sub i) (le-trans (fewer i) (part i)),
       gone,
@@ -204,7 +204,7 @@ dropped-same-length-3 t c = search needs
 dropped-returns-2 : (t : ℕ) → dropped-lts.Need-returns-2 (dropped-calls t) (dropped-at t) dropped.Post dropped-Inv-loop dropped-μ-loop
 dropped-returns-2 t c =
     let a = c .before .before .before .before .before .before .before .before .before .before .args in
-    let T = graph (now (a .needs)) (now (a .gives)) (now (a .members)) (now (a .words)) (a .start) (a .all) in
+    let T = graph (now (a .needs)) (now (a .gives)) (now (a .members)) (now (a .words)) (a .start) in
     let (fine, known) = c .before .before .before .before .before .before .before .before .before .before .pre .1 .0 in
     let (few, room, (inside, none)) = c .before .before .before .before .before .before .before .before .before .before .pre .1 .1 in
     let (plan-kept, table-kept, right, part, out, rest) = c .before .loop .inv in
@@ -245,18 +245,18 @@ extract-calls t = (
 )
 
 abbrev extract-Inv-loop : extract-lts.InvT-loop
-extract-Inv-loop needs gives carriers members words start all plan₀ table₀ k goal may must why first j «open» selection wanted before refuted c left₀ kept₀ reason₀ plan table left kept reason =
-    (length plan ≡ length plan₀) × (length table ≡ length table₀) × Nogoods (graph needs gives members words start all) table
-    × Turning (graph needs gives members words start all) j goal may must why c left kept reason
+extract-Inv-loop needs gives carriers members words start plan₀ table₀ k goal may must why first j «open» selection wanted before refuted c left₀ kept₀ reason₀ plan table left kept reason =
+    (length plan ≡ length plan₀) × (length table ≡ length table₀) × Nogoods (graph needs gives members words start) table
+    × Turning (graph needs gives members words start) j goal may must why c left kept reason
 
 abbrev extract-μ-loop : extract-lts.MeasureT-loop
-extract-μ-loop needs gives carriers members words start all plan₀ table₀ k goal may must why first j «open» selection wanted before refuted c left₀ kept₀ reason₀ plan table left kept reason =
+extract-μ-loop needs gives carriers members words start plan₀ table₀ k goal may must why first j «open» selection wanted before refuted c left₀ kept₀ reason₀ plan table left kept reason =
     left
 
 -- ---- what the answers share: the graph, places that a later place has behind it, and what is known there
 
 abbrev graphOf : (t : ℕ) → extract-lts.Start (extract-calls t) (extract-at t) extract.Post extract-Inv-loop extract-μ-loop → Graph
-graphOf t s = let a = s .args in graph (now (a .needs)) (now (a .gives)) (now (a .members)) (now (a .words)) (a .start) (a .all)
+graphOf t s = let a = s .args in graph (now (a .needs)) (now (a .gives)) (now (a .members)) (now (a .words)) (a .start)
 
 abbrev entry : (t : ℕ) → extract-lts.After-open-to (extract-calls t) (extract-at t) extract.Post extract-Inv-loop extract-μ-loop → extract-lts.Start (extract-calls t) (extract-at t) extract.Post extract-Inv-loop extract-μ-loop
 entry t c = c .before .before .before .before .before .before .before .before .before .before .before .before
@@ -306,8 +306,8 @@ refuted t c =
     let a = s .args in
     let T = graphOf t s in
     let n = x .before .before .before .before .before .gather .result in
-    let q = x .extract .last .1 .1 .1 .1 .1 .1 .1 .0 in
-    refuses-whole T (now (a .carriers)) (s .pre .1 .0 .0) (a .k - 1) n 0 (g .0 .0) (subst (λ r. Extracted T (a .k - 1) n (a .all) 0 0 q r) (g .1) (x .extract .ensures .0))
+    let q = x .extract .last .1 .1 .1 .1 .1 .1 .0 in
+    refuses-whole T (now (a .carriers)) (s .pre .1 .0 .0) (a .k - 1) n 0 (g .0 .0) (subst (λ r. Extracted T (a .k - 1) n allFacts 0 0 q r) (g .1) (x .extract .ensures .0))
 
 abbrev made : (t : ℕ) → extract-lts.After-slice-known7 (extract-calls t) (extract-at t) extract.Post extract-Inv-loop extract-μ-loop → extract-lts.After-dropped (extract-calls t) (extract-at t) extract.Post extract-Inv-loop extract-μ-loop
 made t c = c .before .before .before .before
@@ -475,8 +475,8 @@ extract-extract-requires t c κs =
     let (fine, known) = s .pre .1 .0 in
     let (few, room, goal-in, may-in, why-in) = s .pre .1 .1 in
     let inside = within t n in
-    let falls : (a .k - 1) * 2 ^ 33 + a .all < t = omega (arith, s .pre .0, rounds-left t u, fine .wide) in
-    (falls, ((fine, known), (omega (arith, few), omega (arith, room), λ i. le-trans (inside i) (may-in i), part-refl (a .all), λ i. omega (arith, bit-empty i))))
+    let falls : (a .k - 1) * 2 ^ 33 + allFacts < t = omega (arith, s .pre .0, rounds-left t u) in
+    (falls, ((fine, known), (omega (arith, few), omega (arith, room), λ i. le-trans (inside i) (may-in i), part-refl allFacts, λ i. omega (arith, bit-empty i))))
 
 extract-enum-known-below : (t : ℕ) → extract-lts.Need-enum-known-below (extract-calls t) (extract-at t) extract.Post extract-Inv-loop extract-μ-loop
 extract-enum-known-below t c = search needs
@@ -499,7 +499,7 @@ extract-slice-write-plan t c =
     let x = c .before .before .before .before .before .before .before in
     let u = asked t (picked t x) in
     let s = entry t u in
-    omega (arith, s .pre .1 .1 .1, rounds-left t u, x .extract .kept .1 .1 .1 .1 .1 .1 .1 .0)
+    omega (arith, s .pre .1 .1 .1, rounds-left t u, x .extract .kept .1 .1 .1 .1 .1 .1 .0)
 
 extract-same-length-3 : (t : ℕ) → extract-lts.Need-same-length-3 (extract-calls t) (extract-at t) extract.Post extract-Inv-loop extract-μ-loop
 extract-same-length-3 t c = search needs
@@ -517,11 +517,11 @@ extract-returns-5 t c =
     let T = graphOf t s in
     let y = p .before .picked .given .0 .0 in
     let n = x .before .before .before .before .before .gather .result in
-    let q = x .extract .last .1 .1 .1 .1 .1 .1 .1 .0 in (
+    let q = x .extract .last .1 .1 .1 .1 .1 .1 .0 in (
       subst (λ (i : ℕ). Held T (a .k) (a .goal) (set q i (c .steps-of .result))) (let place : a .k - 1 ≡ _ = omega arith in place)
-          (held-more T (a .k) (a .goal) n y (c .steps-of .result) q (rounds-left t u) (omega (arith, s .pre .1 .1 .1, rounds-left t u, x .extract .kept .1 .1 .1 .1 .1 .1 .1 .0))
+          (held-more T (a .k) (a .goal) n y (c .steps-of .result) q (rounds-left t u) (omega (arith, s .pre .1 .1 .1, rounds-left t u, x .extract .kept .1 .1 .1 .1 .1 .1 .0))
           (open-picks T (a .k - 1) (a .may) (u .open-to .result) (u .open-to .ensures) (a .goal) y (covered t p)) (x .before .before .before .before .before .gather .ensures) (c .steps-of .ensures)
-          (subst (λ r. Extracted T (a .k - 1) n (a .all) 0 0 q r) (c .before .enum-told3 .given .1) (x .extract .ensures .0))),
+          (subst (λ r. Extracted T (a .k - 1) n allFacts 0 0 q r) (c .before .enum-told3 .given .1) (x .extract .ensures .0))),
       x .extract .ensures .1,
     )
 
@@ -537,7 +537,7 @@ extract-dropped-requires t c κs =
     let (part, none) = refuted t b in
     let inside = within t (x .before .before .before .before .before) in
     let falls : (a .k - 1) * 2 ^ 33 + 2 ^ 32 < t = omega (arith, s .pre .0, rounds-left t u) in
-    (falls, ((fine, x .extract .ensures .1), (omega (arith, few), omega (arith, room, x .extract .kept .1 .1 .1 .1 .1 .1 .1 .0), (λ i. le-trans (part i) (le-trans (inside i) (may-in i)), none))))
+    (falls, ((fine, x .extract .ensures .1), (omega (arith, few), omega (arith, room, x .extract .kept .1 .1 .1 .1 .1 .1 .0), (λ i. le-trans (part i) (le-trans (inside i) (may-in i)), none))))
 
 extract-without-requires-2 : (t : ℕ) → extract-lts.Need-without-requires-2 (extract-calls t) (extract-at t) extract.Post extract-Inv-loop extract-μ-loop
 extract-without-requires-2 t c κs = search needs
@@ -576,8 +576,8 @@ extract-extract-requires-2 t c κs =
     let f = r .lowest2 .result in
     let (plan-kept, table-kept, right, turning) = l .inv in
     let falls : a .k * 2 ^ 33 + c .less .result < t = omega (arith, s .pre .0, c .less .ensures, less-lt (a .may) f (part-in (l .left) (a .may) (turning .left) f (turned t r))) in
-    let inside : c .less .result ⊆ a .all = subst (λ (m : ℕ). m ⊆ a .all) (sym (c .less .ensures)) (λ i. omega (arith, bit-without (a .may) (2 ^ f) i, may-in i)) in
-    (falls, ((fine, right), (few, omega (arith, room, plan-kept, x .extract .kept .1 .1 .1 .1 .1 .1 .1 .0, made t d .dropped .kept .1 .1 .1 .1 .1 .1 .1 .0), goal-in, inside, turning .part)))
+    let inside : c .less .result ⊆ allFacts = subst (λ (m : ℕ). m ⊆ allFacts) (sym (c .less .ensures)) (λ i. omega (arith, bit-without (a .may) (2 ^ f) i, may-in i)) in
+    (falls, ((fine, right), (few, omega (arith, room, plan-kept, x .extract .kept .1 .1 .1 .1 .1 .1 .0, made t d .dropped .kept .1 .1 .1 .1 .1 .1 .0), goal-in, inside, turning .part)))
 
 extract-enum-known-turn : (t : ℕ) → extract-lts.Need-enum-known-turn (extract-calls t) (extract-at t) extract.Post extract-Inv-loop extract-μ-loop
 extract-enum-known-turn t c = search needs
@@ -586,10 +586,10 @@ extract-enum-told-4 : (t : ℕ) → extract-lts.Need-enum-told-4 (extract-calls 
 extract-enum-told-4 t c = search needs
 
 extract-same-length-5 : (t : ℕ) → extract-lts.Need-same-length-5 (extract-calls t) (extract-at t) extract.Post extract-Inv-loop extract-μ-loop
-extract-same-length-5 t c = omega (arith, c .before .before .before .before .before .before .before .before .before .before .before .before .before .before .before .before .before .before .before .before .before .before .before .before .before .before .before .before .extract .kept .1 .1 .1 .1 .1 .1 .1 .0, c .before .before .before .before .before .before .before .before .before .before .before .before .before .before .before .before .before .before .dropped .kept .1 .1 .1 .1 .1 .1 .1 .0, c .before .before .before .before .before .before .before .before .before .before .before .before .loop .inv .0, c .before .before .before .before .before .before .extract2 .kept .1 .1 .1 .1 .1 .1 .1 .0)
+extract-same-length-5 t c = omega (arith, c .before .before .before .before .before .before .before .before .before .before .before .before .before .before .before .before .before .before .before .before .before .before .before .before .before .before .before .before .extract .kept .1 .1 .1 .1 .1 .1 .0, c .before .before .before .before .before .before .before .before .before .before .before .before .before .before .before .before .before .before .dropped .kept .1 .1 .1 .1 .1 .1 .0, c .before .before .before .before .before .before .before .before .before .before .before .before .loop .inv .0, c .before .before .before .before .before .before .extract2 .kept .1 .1 .1 .1 .1 .1 .0)
 
 extract-same-length-6 : (t : ℕ) → extract-lts.Need-same-length-6 (extract-calls t) (extract-at t) extract.Post extract-Inv-loop extract-μ-loop
-extract-same-length-6 t c = omega (arith, c .before .before .before .before .before .before .before .before .before .before .before .before .before .before .before .before .before .before .before .before .before .before .before .before .before .before .before .before .extract .kept .1 .1 .1 .1 .1 .1 .1 .1 .0, c .before .before .before .before .before .before .before .before .before .before .before .before .before .before .before .before .before .before .dropped .kept .1 .1 .1 .1 .1 .1 .1 .1 .0, c .before .before .before .before .before .before .before .before .before .before .before .before .loop .inv .1, c .before .before .before .before .before .before .extract2 .kept .1 .1 .1 .1 .1 .1 .1 .1 .0)
+extract-same-length-6 t c = omega (arith, c .before .before .before .before .before .before .before .before .before .before .before .before .before .before .before .before .before .before .before .before .before .before .before .before .before .before .before .before .extract .kept .1 .1 .1 .1 .1 .1 .1 .0, c .before .before .before .before .before .before .before .before .before .before .before .before .before .before .before .before .before .before .dropped .kept .1 .1 .1 .1 .1 .1 .1 .0, c .before .before .before .before .before .before .before .before .before .before .before .before .loop .inv .1, c .before .before .before .before .before .before .extract2 .kept .1 .1 .1 .1 .1 .1 .1 .0)
 
 extract-returns-6 : (t : ℕ) → extract-lts.Need-returns-6 (extract-calls t) (extract-at t) extract.Post extract-Inv-loop extract-μ-loop
 extract-returns-6 t c =
@@ -598,7 +598,7 @@ extract-returns-6 t c =
     let s = entry t (asked t (picked t (called t (told t (y .before .before .before .before .before .before .before .before))))) in
     let a = s .args in
     let T = graphOf t s in
-    let q = y .extract2 .last .1 .1 .1 .1 .1 .1 .1 .0 in
+    let q = y .extract2 .last .1 .1 .1 .1 .1 .1 .0 in
     (subst (λ r. Extracted T (a .k) (a .goal) (y .before .less .result) (l .kept) (l .reason) q r) (c .enum-told4 .given .1) (y .extract2 .ensures .0), y .extract2 .ensures .1)
 
 extract-more-requires-2 : (t : ℕ) → extract-lts.Need-more-requires-2 (extract-calls t) (extract-at t) extract.Post extract-Inv-loop extract-μ-loop
@@ -625,11 +625,11 @@ extract-loop-again t c =
     let T = graphOf t s in
     let (plan-kept, table-kept, right, turning) = l .inv in
     let less = y .before .less .result in
-    let q = y .extract2 .last .1 .1 .1 .1 .1 .1 .1 .0 in
+    let q = y .extract2 .last .1 .1 .1 .1 .1 .1 .0 in
     let blocked = refuses-blocked T (a .k) (a .goal) less (l .kept) (l .reason) (g .0 .0) (rounds-left t u)
     (subst (λ r. Extracted T (a .k) (a .goal) less (l .kept) (l .reason) q r) (g .1) (y .extract2 .ensures .0)) in (
-      omega (arith, y .extract2 .kept .1 .1 .1 .1 .1 .1 .1 .0, plan-kept),
-      omega (arith, y .extract2 .kept .1 .1 .1 .1 .1 .1 .1 .1 .0, table-kept),
+      omega (arith, y .extract2 .kept .1 .1 .1 .1 .1 .1 .0, plan-kept),
+      omega (arith, y .extract2 .kept .1 .1 .1 .1 .1 .1 .1 .0, table-kept),
       y .extract2 .ensures .1,
       turning-more T (a .k - 1) (a .goal) (a .may) (a .must) (a .why) (made t d .dropped .result) (l .left) (l .kept) (l .reason) (r .lowest2 .result) less (g .0 .0)
           (c .before .more2 .result) (c .less2 .result) turning (y .before .less .ensures) blocked (c .before .more2 .ensures) (c .less2 .ensures),
