@@ -7,7 +7,7 @@ use super::states;
 use super::{members, transposed, Counts};
 
 const SLOTS: usize = 8191;
-/// From so many nogoods on a search is long.
+/// A search is long while the place of its last nogood is this one or after it; that is no count of those stored.
 const MANY: usize = 1024;
 const ALL: u64 = 0xffff_ffff;
 
@@ -82,8 +82,8 @@ impl Search<'_> {
     }
 
     /// Of facts that k rounds do not reach, some that they do not reach either: one after the other is dropped where that
-    /// can be. It is worth its searches only where they are newly refuted, after the nogood `before`, and many are
-    /// stored.
+    /// can be. It is worth its searches only where they are newly refuted, after the nogood `before`, and the search is
+    /// long.
     fn dropped(&mut self, k: usize, refuted: u64, before: usize) -> u64 {
         let mut least = refuted;
         if self.nogoods.last == before || self.nogoods.last < MANY {
