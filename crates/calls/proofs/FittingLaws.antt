@@ -31,7 +31,8 @@ use Rattle.layers.specs.Meaning.{layer, roomy}
 use Rattle.layers.proofs.LayerCode.{facts-length, rounds-length}
 use Rattle.planner.specs.declared.Planned.{Planned}
 use Rattle.planner.specs.declared.Planned.the-variants as Planned
-use Rattle.planner.specs.Planner.{plannedBy, Words}
+use Rattle.planner.specs.Meaning.{plannedBy}
+use Rattle.planner.specs.Planner.{Words}
 use Rattle.arguments.specs.Answers.{Answer, refusal, value, onJob, behind, foundOr, Said, answered, said, refusalSaid, Left, leaving}
 use Rattle.arguments.specs.Tests.{roomTest, layerTest}
 use Rattle.arguments.specs.Meaning.{verdictOf}

@@ -21,7 +21,7 @@ use Rattle.choice.specs.Choice.{smallest}
 use Rattle.choice.specs.Search.{Finds}
 use Rattle.choice.specs.Meaning.{foundBy}
 use Rattle.choice.proofs.CoverLaws.{widened}
-use Rattle.supports.specs.Questions.{rowOf, Opens, Uncovered}
+use Rattle.supports.specs.Supports.{rowOf, Opens, Uncovered}
 use Rattle.supports.proofs.LayerLaws.{asked}
 use Rattle.extraction.specs.Extraction.{allFacts, Graph, Picks, needsOf, Back, Held, Fine, Nogoods, StoredIf, Blocked, Lacking, Refutes}
 use Rattle.extraction.proofs.NogoodLaws.{stored-if, whole-box}

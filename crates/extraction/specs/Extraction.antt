@@ -9,7 +9,7 @@ use lib.ListN.{length, getD}
 use Rattle.sets.specs.Sets.{_⊆_, full, gathered}
 use Rattle.network.specs.Network.{listed, Cover}
 use Rattle.network.specs.Tables.{Tabled}
-use Rattle.supports.specs.Questions.{rowOf}
+use Rattle.supports.specs.Supports.{rowOf}
 use Rattle.extraction.specs.declared.Outcome.{Outcome}
 use Rattle.extraction.specs.declared.Outcome.the-variants as Outcome
 use Rattle.extraction.specs.declared.nogoods.Known.{Known}

@@ -10,7 +10,7 @@ use Rattle.sets.proofs.Ranges.{one-more}
 use Rattle.planning.specs.Rounds.{Fitting}
 use Rattle.planning.specs.Layers.{Layer}
 use Rattle.layers.specs.Meaning.{layer}
-use Rattle.supports.specs.Questions.{rowOf}
+use Rattle.supports.specs.Supports.{rowOf}
 use Rattle.planner.specs.Tabulated.{roundAfter, Laid, Put}
 
 -- ---- a row

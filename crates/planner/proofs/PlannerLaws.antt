@@ -27,9 +27,10 @@ use Rattle.planning.proofs.PlanLaws.{PlanOf, none-fewest, some-fewest, reaches-
 use Rattle.planning.proofs.WordLaws.{words-length, rounds-words, rounds-turned}
 use Rattle.planning.proofs.LayerLaws.{roomy}
 use Rattle.planning.proofs.BackLaws.{reaches-plan, forth, back}
-use Rattle.supports.specs.Questions.{rowOf}
+use Rattle.supports.specs.Supports.{rowOf}
 use Rattle.extraction.specs.Extraction.{allFacts, Graph, graph, Picks, needsOf, Back, Held, Fine}
-use Rattle.planner.specs.Planner.{plannedBy, Words}
+use Rattle.planner.specs.Meaning.{plannedBy}
+use Rattle.planner.specs.Planner.{Words}
 use Rattle.planner.specs.Tabulated.{roundAfter, Layered, Laid}
 use Rattle.planner.specs.declared.Planned.{Planned}
 use Rattle.planner.specs.declared.Planned.the-variants as Planned

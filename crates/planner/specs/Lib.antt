@@ -1,3 +1,4 @@
--- What the planner answers; and the tables that it works on.
+-- What the planner answers, what the code's types mean, and the tables that it works on.
 pub mod Planner
+pub mod Meaning
 pub mod Tabulated

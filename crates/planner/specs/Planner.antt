@@ -1,17 +1,11 @@
 -- What the planner answers (docs/RULES.md, "Planner").
 use mathlib.Core.Path.{_≡_}
 use mathlib.Core.List.{List}
-use mathlib.Core.Option.{Option, none, some}
 use Prim.Native.Nat.{ℕ}
 use lib.ListN.{take, drop}
 use Rattle.planning.specs.Rounds.{Fitting, Plan}
 use Rattle.planner.specs.declared.Planned.{Planned}
 use Rattle.planner.specs.declared.Planned.the-variants as Planned
-
--- the count of a plan's rounds, or that there is no plan
-abbrev pub plannedBy : Option ℕ → Planned
-plannedBy (some k) = Planned.Rounds k
-plannedBy none = Planned.Nothing
 
 -- What is left free is which plan it is: the words in front are the rounds of a plan, in their order, and the others keep; where there is no
 -- plan all keep

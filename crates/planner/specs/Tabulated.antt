@@ -6,7 +6,7 @@ use lib.ListN.{length, getD, drop}
 use Rattle.sets.specs.Ranges.{listTo}
 use Rattle.planning.specs.Rounds.{Fitting}
 use Rattle.planning.specs.Layers.{Layer, vertices, factLayer, roundOver}
-use Rattle.supports.specs.Questions.{rowOf}
+use Rattle.supports.specs.Supports.{rowOf}
 
 -- round layer j + 1
 abbrev pub roundAfter : Fitting → ℕ → Layer

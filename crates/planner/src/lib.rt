@@ -6,7 +6,8 @@ ghost use lib.ListN.{length};
 ghost use Rattle.planning.specs.Rounds.{fewest};
 ghost use Rattle.planning.specs.Back.{Sized};
 ghost use Rattle.planning.specs.Meaning.{fittingIn};
-ghost use Rattle.planner.specs.Planner.{plannedBy, Words};
+ghost use Rattle.planner.specs.Meaning.{plannedBy};
+ghost use Rattle.planner.specs.Planner.{Words};
 
 mod search;
 mod tabulated;

@@ -22,7 +22,7 @@ use Rattle.choice.specs.Choice.{smallest}
 use Rattle.choice.specs.Search.{Finds}
 use Rattle.choice.specs.Meaning.{foundBy, isSome}
 use Rattle.choice.proofs.ChoiceLaws.{smallest-right}
-use Rattle.supports.specs.Questions.{rowOf, Opens, Uncovered}
+use Rattle.supports.specs.Supports.{rowOf, Opens, Uncovered}
 
 -- ---- a loop over the members of m, from the lowest up: those visited are the members that are not left, `without m left`
 

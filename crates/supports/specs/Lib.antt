@@ -1,2 +1,2 @@
 -- The questions of one round layer.
-pub mod Questions
+pub mod Supports

@@ -9,7 +9,7 @@ ghost use Rattle.network.specs.Network.{listed, Cover};
 ghost use Rattle.network.specs.Tables.{Tabled};
 ghost use Rattle.choice.specs.Choice.{smallest};
 ghost use Rattle.choice.specs.Meaning.{foundBy};
-ghost use Rattle.supports.specs.Questions.{rowOf, Opens, Uncovered};
+ghost use Rattle.supports.specs.Supports.{rowOf, Opens, Uncovered};
 use choice::Found;
 use sets::word;
 

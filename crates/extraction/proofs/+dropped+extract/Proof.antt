@@ -14,7 +14,7 @@ use denote.Ref.{now}
 use Rattle.sets.specs.Sets.{_∈_, _⊆_}
 use Rattle.sets.proofs.Bits.{bit-empty, bit-without, part-refl, part-in, part-le, less-lt}
 use Rattle.network.specs.Network.{listed, Cover}
-use Rattle.supports.specs.Questions.{rowOf}
+use Rattle.supports.specs.Supports.{rowOf}
 use Rattle.supports.proofs.LayerLaws.{lowest-one, asked-none}
 use Rattle.extraction.specs.Extraction.{allFacts, Graph, graph, Back, Held, Nogoods, Noted, Extracted}
 use Rattle.extraction.proofs.NogoodLaws.{noted-refutes}

@@ -9,7 +9,7 @@ use Rattle.sets.specs.Sets.{lowest}
 use Rattle.sets.proofs.Bits.{part-refl}
 use Rattle.network.specs.Network.{listed, Cover}
 use Rattle.network.specs.Tables.{Tabled}
-use Rattle.supports.specs.Questions.{Uncovered}
+use Rattle.supports.specs.Supports.{Uncovered}
 use Rattle.supports.proofs.LayerLaws.{Outside, outside-start, outside-turn, outside-lowest}
 use Rattle.supports.proofs.explain.Statement.{statement}
 use Rattle.supports.proofs.explain.Tie as tie

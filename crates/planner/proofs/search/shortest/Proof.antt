@@ -13,7 +13,8 @@ use Rattle.reachability.specs.States.{Hopeless}
 use Rattle.extraction.specs.Extraction.{allFacts, Graph, graph, Back, Nogoods, Fine, Extracted}
 use Rattle.extraction.proofs.NogoodLaws.{empty-nogoods}
 use Rattle.planner.specs.declared.Planned.the-variants as Planned
-use Rattle.planner.specs.Planner.{plannedBy, Words}
+use Rattle.planner.specs.Meaning.{plannedBy}
+use Rattle.planner.specs.Planner.{Words}
 use Rattle.planner.specs.Tabulated.{Copied}
 use Rattle.planner.proofs.SearchLaws.{held-same, refused-more}
 use Rattle.planner.proofs.PlannerLaws.{Tabulated, Searched, tabulated, members-length, unplanned, goal-inside, fine, solved-count, solved-words}
