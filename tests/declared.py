@@ -169,6 +169,14 @@ def needs(text):
     return {name: [word for word in words if word in listed] for name, words in listed.items()}
 
 
+def unnamed(root):
+    """The needs of crates.txt that a crate does not name in its code, definitions and proofs."""
+    for crate, words in needs((root / "crates.txt").read_text()).items():
+        files = (path for path in (root / "crates" / crate).rglob("*") if path.suffix in (".rt", ".antt"))
+        text = "\n".join(source.rattle(path.read_text()) if path.suffix == ".rt" else source.antt(path.read_text()) for path in files)
+        yield from (f"{crate}: {word}" for word in words if not re.search(rf"\bRattle·{word}[·.]|(?<![\w:]){word}::", text))
+
+
 def arrows(text):
     """The arrows of the pictures of a page: pairs of a crate and one that is built on it. The pictures are flowcharts of Mermaid."""
     found = []
@@ -180,8 +188,10 @@ def arrows(text):
 
 
 def drawn(root):
-    """How many arrows the pictures of docs/ARCHITECTURE.md have: each need of crates.txt that does not follow from others, once, and nothing else."""
-    direct = needs((root / "crates.txt").read_text())
+    """How many arrows the pictures of docs/ARCHITECTURE.md have: each need of crates.txt that does not follow from others, once, and nothing else.
+    crates.txt lists just what a crate names: what is missing there, rt finds."""
+    direct, idle = needs((root / "crates.txt").read_text()), list(unnamed(root))
+    demand(not idle, "crates.txt lists what a crate does not name: " + ", ".join(idle))
 
     def below(name):
         return {each for need in direct[name] for each in (need, *below(need))}

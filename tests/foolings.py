@@ -327,8 +327,9 @@ def architecture(folder):
         ("an arrow that no need gives", page, "    sets --> text\n", "    sets --> text\n    filter --> text\n", "differ in filter --> text"),
         ("an arrow that follows from others", page, "    sets --> text\n", "    sets --> text\n    sets --> jobfile\n", "differ in sets --> jobfile"),
         ("an arrow twice", page, "    sets --> text\n", "    sets --> text\n    sets --> text\n", "an arrow twice"),
-        ("a need that is not drawn", listed, line, f"{line} filter", "differ in filter --> text, sets --> text"),
-        ("a crate that is not drawn", listed, line, f"{line}\nlonely: text", "differ in text --> lonely"),
+        ("a need that the crate does not name", listed, line, f"{line} filter", "does not name: text: filter"),
+        ("a need that is not drawn", page, "    filter --> arguments\n", "", "differ in filter --> arguments"),
+        ("a need that is left out", listed, line, "text:", "differ in sets --> text"),
     ):
         with planted(path, old, new):
             found(label, words, declared.drawn, folder)
