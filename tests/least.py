@@ -43,7 +43,7 @@ CHECKS = {
     "showroom_faults": 9,
     "page": 21_450,
     "runner": 115,
-    "foolings": 157,
+    "foolings": 169,
     "as_cpp": 10,
     "rust": 9,
     "installed": 6,
