@@ -150,7 +150,12 @@ pub fn bit_map(file: &[u8], from: Cursor, fields: usize) -> Item
 {
     let item = number(file, from, 1);
     let v = item.value;
-    tested(item, word::exceeds(v, fields), Reason::ForbiddenBit, place(from))
+    tested(
+        item,
+        word::exceeds(v, fields),
+        Reason::ForbiddenBit,
+        place(from),
+    )
 }
 
 // A set whose members are below the limit.
@@ -160,7 +165,12 @@ pub fn set(file: &[u8], from: Cursor, bytes: usize, limit: usize) -> Item
 {
     let item = number(file, from, bytes);
     let v = item.value;
-    tested(item, word::exceeds(v, limit), Reason::AbsentMember, place(from))
+    tested(
+        item,
+        word::exceeds(v, limit),
+        Reason::AbsentMember,
+        place(from),
+    )
 }
 
 // Such a set as a field of a record, which is there where it is marked.
