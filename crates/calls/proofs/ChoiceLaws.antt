@@ -21,7 +21,7 @@ use Rattle.filter.proofs.WishLaws.{pass-listed}
 use Rattle.choice.specs.declared.Choice.{Choice}
 use Rattle.choice.specs.Choice.{selection, chosen}
 use Rattle.choice.specs.Meaning.{chosenBy}
-use Rattle.arguments.specs.Answers.{Answer, refusal, value, onJob, behind, Said, answered, said, refusalSaid, Left, leaving}
+use Rattle.arguments.specs.Answers.{Answer, value, onJob, behind, answered, said, refusalSaid, Left, leaving}
 use Rattle.arguments.specs.Tests.{roomTest, groupsTest, passTest, goalsTest}
 use Rattle.arguments.specs.Meaning.{verdictOf, networkIn}
 use Rattle.arguments.proofs.TestLaws.{stopped, through, groups-passed, goals-passed}
