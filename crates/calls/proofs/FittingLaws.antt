@@ -39,7 +39,7 @@ use Rattle.arguments.proofs.TestLaws.{stopped, through}
 use Rattle.calls.specs.Layers.{factLayerOf, roundLayerOf}
 use Rattle.calls.specs.Plan.{planIn, planOf, WordsIn, Buffer}
 use Rattle.calls.proofs.ToldLaws.{values, number, number-said}
-use Rattle.calls.proofs.CallLaws.{fitting-down, job-down, on-job, FittingRead}
+use Rattle.calls.proofs.CallLaws.{fitting-verdict, file-down, job-down, on-job, FittingRead}
 
 -- ---- the layers
 
@@ -84,7 +84,7 @@ module _ (draw : Fitting → Layer) (lowest size : ℕ) (f old : List ℕ) (k : 
   onFile = onJob (readJob fittings f) (λ job. layerOf (fittingOf job))
 
   pub layer-down : {v : Verdict} {x : Refusal} → v ≡ fittingRead (read spots fittings f) .verdict → v ≡ Verdict.Refused x → record { answer = refusalSaid x; buffer = old } ≡ left onFile
-  layer-down p q = ap left (job-down (λ job. layerOf (fittingOf job)) (fitting-down f p q))
+  layer-down p q = ap left (job-down (λ job. layerOf (fittingOf job)) (file-down f fittings (p ∙ fitting-verdict (read spots fittings f)) q))
 
   module _ (r : ReadFitting) (R : FittingRead f r) {v : Verdict} (e : v ≡ verdictOf (layerTest k lowest (r .horizon) (length old) size)) where
     from-file : layerOf (fittingIn r) ≡ onFile
@@ -134,7 +134,7 @@ module _ (f old new : List ℕ) where
   by s g = (s ≡ said (onJob g (λ job. planIn job old))) × Buffer g old new (onJob g (λ job. planIn job old))
 
   pub plan-down : {v : Verdict} {x : Refusal} → v ≡ fittingRead (read spots fittings f) .verdict → v ≡ Verdict.Refused x → new ≡ old → Promised (refusalSaid x)
-  plan-down {x = x} p q same = subst (by (refusalSaid x)) (sym (fitting-down f p q)) (refl, same)
+  plan-down {x = x} p q same = subst (by (refusalSaid x)) (sym (file-down f fittings (p ∙ fitting-verdict (read spots fittings f)) q)) (refl, same)
 
   -- so many words were demanded
   module _ (r : ReadFitting) (R : FittingRead f r) {v : Verdict} {size : ℕ} (room : v ≡ verdictOf (roomTest (length old) size)) (as-read : size ≡ r .horizon) where

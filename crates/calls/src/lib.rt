@@ -261,24 +261,14 @@ fn answer_of(holder: Holder) -> FindAnswer
 pub fn find(file: &[u8], name: &[u8]) -> FindAnswer
     ensures { λ r. ⌜ findTold r ≡ said (findOf (now (file .entry)) (now (name .entry))) ⌝ }
 {
-    if jobfile::is_fitting(file) {
-        let read = jobfile::read_fitting(file);
-        let verdict = read.verdict;
-        if let Verdict::Refused(refusal) = verdict {
-            return FindAnswer::Refused(refusal);
-        }
-        let starts = read.starts;
-        let lens = read.lens;
-        return answer_of(names::search(file, starts, lens, read.steps, name));
-    }
-    let read = jobfile::read_choice(file);
+    let read = jobfile::read_names(file);
     let verdict = read.verdict;
     if let Verdict::Refused(refusal) = verdict {
         return FindAnswer::Refused(refusal);
     }
     let starts = read.starts;
     let lens = read.lens;
-    answer_of(names::search(file, starts, lens, read.articles, name))
+    answer_of(names::search(file, starts, lens, read.count, name))
 }
 
 // Whether two files are alike, or why one of them is refused.

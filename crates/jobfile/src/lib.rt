@@ -8,7 +8,7 @@ ghost use lib.ListN.{length, getD};
 ghost use Rattle.reading.specs.Got.{refused};
 ghost use Rattle.reading.specs.Items.{spots};
 ghost use Rattle.jobfile.specs.Read.{read, choices, fittings, either};
-ghost use Rattle.jobfile.specs.Meaning.{choiceRead, fittingRead, spotOf, spotIn, ChoiceBounds, FittingBounds};
+ghost use Rattle.jobfile.specs.Meaning.{choiceRead, fittingRead, namesRead, spotOf, spotIn, ChoiceBounds, FittingBounds, NamesBounds};
 
 pub mod records;
 
@@ -48,6 +48,15 @@ pub struct ReadFitting {
     pub needs: [u64; 64],
     pub gives: [u64; 64],
     pub takes: [u64; 64],
+    pub starts: [usize; 64],
+    pub lens: [usize; 64],
+}
+
+// The names of a file of either kind as read, likewise: how many articles or steps there are, and where
+// the name of each stands.
+pub struct ReadNames {
+    pub verdict: Verdict,
+    pub count: usize,
     pub starts: [usize; 64],
     pub lens: [usize; 64],
 }
@@ -181,6 +190,35 @@ pub fn is_fitting(file: &[u8]) -> bool
     file[0] == 70
 }
 
+// Reads the names of a file of either kind.
+pub fn read_names(file: &[u8]) -> ReadNames
+    ensures { λ r. ⌜ r ≡ namesRead (read spots either (now (file .entry))) ⌝ }
+    ensures { λ r. ⌜ NamesBounds (now (file .entry)) r ⌝ }
+{
+    if is_fitting(file) {
+        let read = read_fitting(file);
+        let verdict = read.verdict;
+        let starts = read.starts;
+        let lens = read.lens;
+        return ReadNames {
+            verdict,
+            count: read.steps,
+            starts,
+            lens,
+        };
+    }
+    let read = read_choice(file);
+    let verdict = read.verdict;
+    let starts = read.starts;
+    let lens = read.lens;
+    ReadNames {
+        verdict,
+        count: read.articles,
+        starts,
+        lens,
+    }
+}
+
 // An element of the columns of names: none behind their end.
 fn spot_at(starts: [usize; 64], lens: [usize; 64], number: usize) -> Spot
     ensures { λ r. ⌜ r ≡ spotOf starts lens number ⌝ }
@@ -199,13 +237,7 @@ pub fn spot(file: &[u8], number: usize) -> Spot
     ensures { λ r. ⌜ r ≡ spotIn (read spots either (now (file .entry))) number ⌝ }
     ensures { λ r. ⌜ r .start + r .len ≤ length (now (file .entry)) ⌝ }
 {
-    if is_fitting(file) {
-        let read = read_fitting(file);
-        let starts = read.starts;
-        let lens = read.lens;
-        return spot_at(starts, lens, number);
-    }
-    let read = read_choice(file);
+    let read = read_names(file);
     let starts = read.starts;
     let lens = read.lens;
     spot_at(starts, lens, number)
