@@ -5,6 +5,11 @@ ghost use lib.ListN.{length, getD};
 ghost use lib.Seq.{paste};
 use sets::copy;
 
+// The words of a fact layer, and those of a round layer.
+pub const FACT_WORDS: usize = 32;
+
+pub const VERTEX_WORDS: usize = 64;
+
 // The words of 32 facts. Later words keep.
 pub fn facts(words: &mut [u32], mutex: &[u64; 64])
     requires { ⌜ (32 ≤ length (now words)) × ((i : ℕ) → i < 32 → getD (now mutex) i 0 < 2 ^ 32) ⌝ }
@@ -12,7 +17,7 @@ pub fn facts(words: &mut [u32], mutex: &[u64; 64])
 {
     let made: &[u64] = mutex;
     let mut i: usize = 0;
-    while i < 32 {
+    while i < FACT_WORDS {
         words[i] = made[i] as u32;
         i += 1;
     }
@@ -23,5 +28,5 @@ pub fn vertices(words: &mut [u64], mutex: &[u64; 64])
     requires { ⌜ 64 ≤ length (now words) ⌝ }
     ensures { λ r. ⌜ now (words .exit) ≡ paste (now (words .entry)) 0 (now (mutex .entry)) 64 ⌝ }
 {
-    copy::words(words, 0, mutex, 64);
+    copy::words(words, 0, mutex, VERTEX_WORDS);
 }

@@ -164,7 +164,7 @@ pub fn fact_layer(file: &[u8], k: usize, words: &mut [u32]) -> FactsAnswer
     if let Verdict::Refused(refusal) = verdict {
         return FactsAnswer::Refused(refusal);
     }
-    let tested = arguments::layer(k, 0, read.horizon, words.len(), 32);
+    let tested = arguments::layer(k, 0, read.horizon, words.len(), written::FACT_WORDS);
     if let Verdict::Refused(refusal) = tested {
         return FactsAnswer::Refused(refusal);
     }
@@ -190,7 +190,7 @@ pub fn round_layer(file: &[u8], k: usize, words: &mut [u64]) -> VerticesAnswer
     if let Verdict::Refused(refusal) = verdict {
         return VerticesAnswer::Refused(refusal);
     }
-    let tested = arguments::layer(k, 1, read.horizon, words.len(), 64);
+    let tested = arguments::layer(k, 1, read.horizon, words.len(), written::VERTEX_WORDS);
     if let Verdict::Refused(refusal) = tested {
         return VerticesAnswer::Refused(refusal);
     }
