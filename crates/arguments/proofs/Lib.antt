@@ -1,4 +1,3 @@
--- The laws behind the tests of what is lent, and behind the writing of words.
+-- The laws behind the tests of what is lent.
 pub mod TestLaws
 pub mod VerdictLaws
-pub mod WrittenLaws

@@ -1,17 +1,23 @@
 // Mutex words, written into a buffer that a caller lends.
 ghost use mathlib.Core.Path.{_≡_};
-ghost use mathlib.Core.List.{_++_};
 ghost use Prim.Native.Nat.{ℕ, _^_, _≤_, _<_};
-ghost use lib.ListN.{length, getD, take, drop};
+ghost use lib.ListN.{length, getD};
+ghost use lib.Seq.{paste};
+use sets::copy;
+
+// The words of a fact layer, and those of a round layer.
+pub const FACT_WORDS: usize = 32;
+
+pub const VERTEX_WORDS: usize = 64;
 
 // The words of 32 facts. Later words keep.
 pub fn facts(words: &mut [u32], mutex: &[u64; 64])
     requires { ⌜ (32 ≤ length (now words)) × ((i : ℕ) → i < 32 → getD (now mutex) i 0 < 2 ^ 32) ⌝ }
-    ensures { λ r. ⌜ now (words .exit) ≡ take 32 (now (mutex .entry)) ++ drop 32 (now (words .entry)) ⌝ }
+    ensures { λ r. ⌜ now (words .exit) ≡ paste (now (words .entry)) 0 (now (mutex .entry)) 32 ⌝ }
 {
     let made: &[u64] = mutex;
     let mut i: usize = 0;
-    while i < 32 {
+    while i < FACT_WORDS {
         words[i] = made[i] as u32;
         i += 1;
     }
@@ -20,12 +26,7 @@ pub fn facts(words: &mut [u32], mutex: &[u64; 64])
 // The words of 64 vertices. Later words keep.
 pub fn vertices(words: &mut [u64], mutex: &[u64; 64])
     requires { ⌜ 64 ≤ length (now words) ⌝ }
-    ensures { λ r. ⌜ now (words .exit) ≡ now (mutex .entry) ++ drop 64 (now (words .entry)) ⌝ }
+    ensures { λ r. ⌜ now (words .exit) ≡ paste (now (words .entry)) 0 (now (mutex .entry)) 64 ⌝ }
 {
-    let made: &[u64] = mutex;
-    let mut i: usize = 0;
-    while i < 64 {
-        words[i] = made[i];
-        i += 1;
-    }
+    copy::words(words, 0, mutex, VERTEX_WORDS);
 }

@@ -16,7 +16,7 @@ use Rattle.jobfile.specs.declared.Verdict.the-variants as Verdict
 use Rattle.jobfile.specs.declared.ReadChoice.{ReadChoice}
 use Rattle.jobfile.specs.declared.ReadFitting.{ReadFitting}
 use Rattle.jobfile.specs.Job.{Job, order}
-use Rattle.jobfile.specs.Meaning.{choiceRead, Few, ChoiceBounds, FittingBounds, fittingRead}
+use Rattle.jobfile.specs.Meaning.{choiceRead, fittingRead, namesRead, Few, ChoiceBounds, FittingBounds}
 use Rattle.jobfile.specs.Read.{read, readJob, choices, fittings}
 use Rattle.jobfile.proofs.NamingLaws.{mapGot, jobBy, read-same}
 use Rattle.network.specs.Network.{networkOf}
@@ -35,20 +35,24 @@ pub record Taken (g : Got (Job Spot)) : Type 0 where
   pub end : ℕ
   pub is : g ≡ got job end
 
--- the verdict of a reading of either kind
+-- the verdict of a reading, whichever of the three it is
 abbrev fileVerdict : Got (Job Spot) → Verdict
 fileVerdict (refused reason place) = Verdict.Refused (record { reason = reason; place = place })
 fileVerdict (got job end) = Verdict.Accepted
 
-choice-verdict : (g : Got (Job Spot)) → choiceRead g .verdict ≡ fileVerdict g
+pub choice-verdict : (g : Got (Job Spot)) → choiceRead g .verdict ≡ fileVerdict g
 choice-verdict (refused reason place) = refl
 choice-verdict (got job end) = refl
 
-fitting-verdict : (g : Got (Job Spot)) → fittingRead g .verdict ≡ fileVerdict g
+pub fitting-verdict : (g : Got (Job Spot)) → fittingRead g .verdict ≡ fileVerdict g
 fitting-verdict (refused reason place) = refl
 fitting-verdict (got job end) = refl
 
-taken : (g : Got (Job Spot)) → fileVerdict g ≡ Verdict.Accepted → Taken g
+pub names-verdict : (g : Got (Job Spot)) → namesRead g .verdict ≡ fileVerdict g
+names-verdict (refused reason place) = refl
+names-verdict (got job end) = refl
+
+pub taken : (g : Got (Job Spot)) → fileVerdict g ≡ Verdict.Accepted → Taken g
 taken (refused reason place) e = let z : _≡_ {A = ℕ} 0 1 = cc in absurd (omega arith)
 taken (got job end) e = record { job = job; end = end; is = refl }
 
@@ -56,23 +60,14 @@ down : (g : Got (Job Spot)) {r : Refusal} → fileVerdict g ≡ Verdict.Refused 
 down (refused reason place) {r} e = let told : Refusal = record { reason = reason; place = place } in let p : told ≡ r = cc in ap (λ (x : Refusal). refused (x .reason) (x .place)) p
 down (got job end) e = let z : _≡_ {A = ℕ} 0 1 = cc in absurd (omega arith)
 
-pub choice-taken : (g : Got (Job Spot)) {v : Verdict} → v ≡ choiceRead g .verdict → v ≡ Verdict.Accepted → Taken g
-choice-taken g p q = taken g (sym (choice-verdict g) ∙ sym p ∙ q)
-
-pub fitting-taken : (g : Got (Job Spot)) {v : Verdict} → v ≡ fittingRead g .verdict → v ≡ Verdict.Accepted → Taken g
-fitting-taken g p q = taken g (sym (fitting-verdict g) ∙ sym p ∙ q)
-
 -- ---- files that are refused
 
 -- what was read with the names as spots, with the names as bytes
 refused-same : (f : List ℕ) (takes : ℕ → Bool) {r : Refusal} → read spots takes f ≡ refused (r .reason) (r .place) → readJob takes f ≡ refused (r .reason) (r .place)
 refused-same f takes e = read-same f takes ∙ ap (mapGot (jobBy f)) e
 
-pub choice-down : (f : List ℕ) {v : Verdict} {r : Refusal} → v ≡ choiceRead (read spots choices f) .verdict → v ≡ Verdict.Refused r → readJob choices f ≡ refused (r .reason) (r .place)
-choice-down f p q = refused-same f choices (down (read spots choices f) (sym (choice-verdict (read spots choices f)) ∙ sym p ∙ q))
-
-pub fitting-down : (f : List ℕ) {v : Verdict} {r : Refusal} → v ≡ fittingRead (read spots fittings f) .verdict → v ≡ Verdict.Refused r → readJob fittings f ≡ refused (r .reason) (r .place)
-fitting-down f p q = refused-same f fittings (down (read spots fittings f) (sym (fitting-verdict (read spots fittings f)) ∙ sym p ∙ q))
+pub file-down : (f : List ℕ) (takes : ℕ → Bool) {v : Verdict} {r : Refusal} → v ≡ fileVerdict (read spots takes f) → v ≡ Verdict.Refused r → readJob takes f ≡ refused (r .reason) (r .place)
+file-down f takes p q = refused-same f takes (down (read spots takes f) (sym p ∙ q))
 
 -- a reading as numbers: the number of the fault and its place, 0 where there is none; and 1 if the file is accepted
 unfoldable pub faultIn : Got (Job Spot) → ℕ
@@ -121,7 +116,7 @@ pub record ChoiceRead (f : List ℕ) (r : ReadChoice) : Type 0 where
 
 pub choice-read : (f : List ℕ) (r : ReadChoice) → r ≡ choiceRead (read spots choices f) → ChoiceBounds f r → r .verdict ≡ Verdict.Accepted → ChoiceRead f r
 choice-read f r e bounds accepted =
-    let t = choice-taken (read spots choices f) (ap (λ x. x .verdict) e) accepted in
+    let t = taken (read spots choices f) (sym (ap (λ x. x .verdict) e ∙ choice-verdict (read spots choices f)) ∙ accepted) in
     let q : r ≡ choiceRead (got (t .job) (t .end)) = e ∙ ap choiceRead (t .is) in
     record {
       job = jobBy f (t .job);
@@ -140,6 +135,6 @@ pub record FittingRead (f : List ℕ) (r : ReadFitting) : Type 0 where
 
 pub fitting-job : (f : List ℕ) (r : ReadFitting) → r ≡ fittingRead (read spots fittings f) → FittingBounds f r → r .verdict ≡ Verdict.Accepted → FittingRead f r
 fitting-job f r e bounds accepted =
-    let t = fitting-taken (read spots fittings f) (ap (λ x. x .verdict) e) accepted in
+    let t = taken (read spots fittings f) (sym (ap (λ x. x .verdict) e ∙ fitting-verdict (read spots fittings f)) ∙ accepted) in
     let q : readJob fittings f ≡ got (jobBy f (t .job)) (t .end) = read-same f fittings ∙ ap (mapGot (jobBy f)) (t .is) in
     record { job = jobBy f (t .job); end = t .end; is = q; fitting = fitting-read f r e bounds (jobBy f (t .job)) (t .end) q }

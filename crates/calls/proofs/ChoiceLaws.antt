@@ -21,14 +21,14 @@ use Rattle.filter.proofs.WishLaws.{pass-listed}
 use Rattle.choice.specs.declared.Choice.{Choice}
 use Rattle.choice.specs.Choice.{selection, chosen}
 use Rattle.choice.specs.Meaning.{chosenBy}
-use Rattle.arguments.specs.Answers.{Answer, refusal, value, onJob, behind, Said, answered, said, refusalSaid, Left, leaving}
+use Rattle.arguments.specs.Answers.{Answer, value, onJob, behind, answered, said, refusalSaid, Left, leaving}
 use Rattle.arguments.specs.Tests.{roomTest, groupsTest, passTest, goalsTest}
 use Rattle.arguments.specs.Meaning.{verdictOf, networkIn}
 use Rattle.arguments.proofs.TestLaws.{stopped, through, groups-passed, goals-passed}
 use Rattle.calls.specs.Partition.{partitionIn, partitionOf}
 use Rattle.calls.specs.Pass.{passIn, passOf}
 use Rattle.calls.specs.Choose.{Chosen, chosenOr, chooseIn, chooseOf, searched}
-use Rattle.calls.proofs.CallLaws.{choice-down, job-down, on-job, ChoiceRead}
+use Rattle.calls.proofs.CallLaws.{choice-verdict, file-down, job-down, on-job, ChoiceRead}
 
 -- ---- the partition
 
@@ -37,7 +37,7 @@ module _ (f old : List ℕ) where
   left a = leaving (λ groups. groups) (λ groups. tt) old a
 
   pub partition-down : {v : Verdict} {x : Refusal} → v ≡ choiceRead (read spots choices f) .verdict → v ≡ Verdict.Refused x → record { answer = refusalSaid x; buffer = old } ≡ partitionOf f old
-  partition-down p q = ap left (job-down (λ job. partitionIn job old) (choice-down f p q))
+  partition-down p q = ap left (job-down (λ job. partitionIn job old) (file-down f choices (p ∙ choice-verdict (read spots choices f)) q))
 
   -- so many bytes were demanded
   module _ (r : ReadChoice) (R : ChoiceRead f r) {v : Verdict} {size : ℕ} (room : v ≡ verdictOf (roomTest (length old) size)) (as-read : size ≡ r .articles) where
@@ -66,7 +66,7 @@ module _ (f old : List ℕ) where
 
 module _ (f groups : List ℕ) (live goal : ℕ) where
   pub pass-down : {v : Verdict} {x : Refusal} → v ≡ choiceRead (read spots choices f) .verdict → v ≡ Verdict.Refused x → refusalSaid x ≡ said (passOf f groups live goal)
-  pass-down p q = ap said (job-down (λ job. passIn job groups live goal) (choice-down f p q))
+  pass-down p q = ap said (job-down (λ job. passIn job groups live goal) (file-down f choices (p ∙ choice-verdict (read spots choices f)) q))
 
   module _ (r : ReadChoice) (R : ChoiceRead f r) {v : Verdict} (e : v ≡ verdictOf (groupsTest (networkIn r) groups)) where
     -- over a network and an order: what is made, behind the tests
@@ -105,7 +105,7 @@ searched-is (some x) aside = refl
 
 module _ (f groups goals : List ℕ) (floor : ℕ) where
   pub choose-down : {v : Verdict} {x : Refusal} → v ≡ choiceRead (read spots choices f) .verdict → v ≡ Verdict.Refused x → refusalSaid x ≡ said (chooseOf f groups goals floor)
-  choose-down p q = ap said (job-down (λ job. chooseIn job groups goals floor) (choice-down f p q))
+  choose-down p q = ap said (job-down (λ job. chooseIn job groups goals floor) (file-down f choices (p ∙ choice-verdict (read spots choices f)) q))
 
   module _ (r : ReadChoice) (R : ChoiceRead f r) {v : Verdict} (e : v ≡ verdictOf (groupsTest (networkIn r) groups)) where
     abbrev chosenOver : Network → ℕ → Answer Chosen

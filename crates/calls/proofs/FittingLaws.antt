@@ -4,10 +4,11 @@ use mathlib.Core.List.{List, _++_}
 use mathlib.Core.Option.{Option, none, some}
 use Prim.Native.Nat.{ℕ, zero, suc, _+_, _-_, _^_, _≤_, _<_}
 use native.Mathlib.Decide.{decLt}
+use native.Mathlib.Nat.{zero-add}
 use native.Mathlib.Omega.{arith}
 use lib.ListN.{length, getD, take, drop}
 use lib.Pow.{pow-mono}
-use lib.Seq.{ext-getD, getD-take, length-take-le}
+use lib.Seq.{ext-getD, getD-take, length-take-le, take-all, paste}
 use Rattle.sets.specs.Ranges.{listTo}
 use Rattle.sets.proofs.Ranges.{list-length, list-at, list-past}
 use Rattle.reading.specs.declared.Reason.the-variants.{NoPlan}
@@ -21,7 +22,7 @@ use Rattle.jobfile.specs.Job.{Job}
 use Rattle.jobfile.specs.Meaning.{padded, fittingRead}
 use Rattle.jobfile.specs.Read.{read, readJob, fittings}
 use Rattle.jobfile.proofs.ReadLaws.{padded-at}
-use Rattle.planning.specs.Rounds.{Fitting, fewest}
+use Rattle.planning.specs.Rounds.{Fitting, fittingOf, fewest}
 use Rattle.planning.specs.Layers.{Layer, vertices, factsOver, factLayer, roundOver, roundLayer}
 use Rattle.planning.specs.Back.{Sized}
 use Rattle.planning.proofs.WordLaws.{words-below}
@@ -37,10 +38,10 @@ use Rattle.arguments.specs.Answers.{Answer, refusal, value, onJob, behind, foun
 use Rattle.arguments.specs.Tests.{roomTest, layerTest}
 use Rattle.arguments.specs.Meaning.{verdictOf}
 use Rattle.arguments.proofs.TestLaws.{stopped, through}
-use Rattle.calls.specs.Layers.{factLayerIn, factLayerOf, roundLayerIn, roundLayerOf}
+use Rattle.calls.specs.Layers.{factLayerOf, roundLayerOf}
 use Rattle.calls.specs.Plan.{planIn, planOf, WordsIn, Buffer}
 use Rattle.calls.proofs.ToldLaws.{values, number, number-said}
-use Rattle.calls.proofs.CallLaws.{fitting-down, job-down, on-job, FittingRead}
+use Rattle.calls.proofs.CallLaws.{fitting-verdict, file-down, job-down, on-job, FittingRead}
 
 -- ---- the layers
 
@@ -72,60 +73,57 @@ module _ (F : Fitting) (k : ℕ) {m : ℕ} {ws : List ℕ} (e : layer m ws ≡ r
   words-fit i l =
       omega (arith, ap (λ L. getD (L .words) i 0) e, padded-at 64 (factLayer 32 F k .words) (omega (arith, facts-length 32 F k)) i, fact-words-below F k i)
 
--- what the calls leave of a layer
-abbrev left : List ℕ → Answer Layer → Left ℕ
-left old a = leaving (λ layer. layer .words) (λ layer. layer .members) old a
+-- A call for layer k of a file, which `draw` gives of its fitting: k is tested from `lowest` on, and the buffer for `size` words.
+module _ (draw : Fitting → Layer) (lowest size : ℕ) (f old : List ℕ) (k : ℕ) where
+  abbrev layerOf : Fitting → Answer Layer
+  layerOf F = behind (layerTest k lowest (F .horizon) (length old) size) (value (draw F))
 
-module _ (f old : List ℕ) (k : ℕ) where
-  pub facts-down : {v : Verdict} {x : Refusal} → v ≡ fittingRead (read spots fittings f) .verdict → v ≡ Verdict.Refused x → record { answer = refusalSaid x; buffer = old } ≡ factLayerOf f k old
-  facts-down p q = ap (left old) (job-down (λ job. factLayerIn job k old) (fitting-down f p q))
+  -- what is left of an answer
+  abbrev left : Answer Layer → Left ℕ
+  left a = leaving (λ layer. layer .words) (λ layer. layer .members) old a
 
-  pub vertices-down : {v : Verdict} {x : Refusal} → v ≡ fittingRead (read spots fittings f) .verdict → v ≡ Verdict.Refused x → record { answer = refusalSaid x; buffer = old } ≡ roundLayerOf f k old
-  vertices-down p q = ap (left old) (job-down (λ job. roundLayerIn job k old) (fitting-down f p q))
+  abbrev onFile : Answer Layer
+  onFile = onJob (readJob fittings f) (λ job. layerOf (fittingOf job))
 
-  module _ (r : ReadFitting) (R : FittingRead f r) where
-    abbrev factsIn : Fitting → Answer Layer
-    factsIn F = behind (layerTest k 0 (F .horizon) (length old) 32) (value (factLayer 32 F k))
+  pub layer-down : {v : Verdict} {x : Refusal} → v ≡ fittingRead (read spots fittings f) .verdict → v ≡ Verdict.Refused x → record { answer = refusalSaid x; buffer = old } ≡ left onFile
+  layer-down p q = ap left (job-down (λ job. layerOf (fittingOf job)) (file-down f fittings (p ∙ fitting-verdict (read spots fittings f)) q))
 
-    facts-on : factsIn (fittingIn r) ≡ onJob (readJob fittings f) (λ job. factLayerIn job k old)
-    facts-on = ap factsIn (R .fitting) ∙ on-job (λ job. factLayerIn job k old) (R .is)
+  module _ (r : ReadFitting) (R : FittingRead f r) {v : Verdict} (e : v ≡ verdictOf (layerTest k lowest (r .horizon) (length old) size)) where
+    from-file : layerOf (fittingIn r) ≡ onFile
+    from-file = ap layerOf (R .fitting) ∙ on-job (λ job. layerOf (fittingOf job)) (R .is)
 
-    pub facts-stopped : {v : Verdict} {x : Refusal} → v ≡ verdictOf (layerTest k 0 (r .horizon) (length old) 32) → v ≡ Verdict.Refused x → record { answer = refusalSaid x; buffer = old } ≡ factLayerOf f k old
-    facts-stopped e q = ap (left old) (stopped (layerTest k 0 (r .horizon) (length old) 32) (value (factLayer 32 (fittingIn r) k)) e q ∙ facts-on)
+    pub layer-stopped : {x : Refusal} → v ≡ Verdict.Refused x → record { answer = refusalSaid x; buffer = old } ≡ left onFile
+    layer-stopped q = ap left (stopped (layerTest k lowest (r .horizon) (length old) size) (value (draw (fittingIn r))) e q ∙ from-file)
 
-    -- layer j was made, and x handed on
-    pub facts-made : {v : Verdict} {x j m : ℕ} {ws new : List ℕ} → v ≡ verdictOf (layerTest k 0 (r .horizon) (length old) 32) → v ≡ Verdict.Accepted
-        → layer m ws ≡ roomy 64 (factLayer 32 (fittingIn r) j) → new ≡ take 32 ws ++ drop 32 old → j ≡ k → x ≡ m → record { answer = answered x; buffer = new } ≡ factLayerOf f k old
-    facts-made {m = m} {ws = ws} {new = new} e q drawn wrote asked told =
-        let made : layer m ws ≡ roomy 64 (factLayer 32 (fittingIn r) k) = drawn ∙ ap (λ (i : ℕ). roomy 64 (factLayer 32 (fittingIn r) i)) asked in
-        let L = factLayer 32 (fittingIn r) k in
-        let words : take 32 ws ≡ L .words = ap (λ M. take 32 (M .words)) made ∙ padded-front 32 64 (L .words) (facts-length 32 (fittingIn r) k) (omega arith) in
-        let same : new ≡ L .words ++ drop (length (L .words)) old = wrote ∙ ap₂ (λ (x : List ℕ) (n : ℕ). x ++ drop n old) words (sym (facts-length 32 (fittingIn r) k)) in
-        ap₂ (λ (x : ℕ) (b : List ℕ). record { answer = answered x; buffer = b }) (told ∙ ap (λ M. M .members) made) same
-        ∙ ap (left old) (through (layerTest k 0 (r .horizon) (length old) 32) (value L) e q ∙ facts-on)
+    -- the words of the layer were copied to the front, and x was handed on
+    layer-made : (ws : List ℕ) {x : ℕ} {new : List ℕ} → v ≡ Verdict.Accepted → take size ws ≡ draw (fittingIn r) .words → length (draw (fittingIn r) .words) ≡ size → new ≡ paste old 0 ws size
+        → x ≡ draw (fittingIn r) .members → record { answer = answered x; buffer = new } ≡ left onFile
+    layer-made ws q words many wrote told =
+        let same = wrote ∙ ap₂ (λ (ws : List ℕ) (n : ℕ). ws ++ drop n old) words (zero-add size ∙ sym many) in
+        ap₂ (λ (x : ℕ) (b : List ℕ). record { answer = answered x; buffer = b }) told same
+        ∙ ap left (through (layerTest k lowest (r .horizon) (length old) size) (value (draw (fittingIn r))) e q ∙ from-file)
 
-    abbrev roundsIn : Fitting → Answer Layer
-    roundsIn F = behind (layerTest k 1 (F .horizon) (length old) 64) (value (roundLayer 32 F k))
+module _ (f old : List ℕ) (k : ℕ) (r : ReadFitting) (R : FittingRead f r) where
+  -- layer j was made, and x handed on
+  pub facts-made : {v : Verdict} {x j m : ℕ} {ws new : List ℕ} → v ≡ verdictOf (layerTest k 0 (r .horizon) (length old) 32) → v ≡ Verdict.Accepted → layer m ws ≡ roomy 64 (factLayer 32 (fittingIn r) j) → new ≡ paste old 0 ws 32
+      → j ≡ k → x ≡ m → record { answer = answered x; buffer = new } ≡ factLayerOf f k old
+  facts-made {m = m} {ws = ws} e q drawn wrote asked told =
+      let L = factLayer 32 (fittingIn r) k in
+      let many : length (L .words) ≡ 32 = facts-length 32 (fittingIn r) k in
+      let made : layer m ws ≡ roomy 64 L = drawn ∙ ap (λ (i : ℕ). roomy 64 (factLayer 32 (fittingIn r) i)) asked in
+      layer-made (λ F. factLayer 32 F k) 0 32 f old k r R e ws q (ap (λ M. take 32 (M .words)) made ∙ padded-front 32 64 (L .words) many (omega arith)) many wrote (told ∙ ap (λ M. M .members) made)
 
-    rounds-on : roundsIn (fittingIn r) ≡ onJob (readJob fittings f) (λ job. roundLayerIn job k old)
-    rounds-on = ap roundsIn (R .fitting) ∙ on-job (λ job. roundLayerIn job k old) (R .is)
+  -- the round layer over fact layer j was made, and x handed on
+  abbrev roundAfter : ℕ → Layer
+  roundAfter i = roundOver 32 (vertices 32 (fittingIn r)) (32 + r .steps) (factLayer 32 (fittingIn r) i)
 
-    pub vertices-stopped : {v : Verdict} {x : Refusal} → v ≡ verdictOf (layerTest k 1 (r .horizon) (length old) 64) → v ≡ Verdict.Refused x → record { answer = refusalSaid x; buffer = old } ≡ roundLayerOf f k old
-    vertices-stopped e q = ap (left old) (stopped (layerTest k 1 (r .horizon) (length old) 64) (value (roundLayer 32 (fittingIn r) k)) e q ∙ rounds-on)
-
-    -- the round layer over fact layer j was made, and x handed on
-    abbrev roundAfter : ℕ → Layer
-    roundAfter j = roundOver 32 (vertices 32 (fittingIn r)) (32 + r .steps) (factLayer 32 (fittingIn r) j)
-
-    pub vertices-made : {v : Verdict} {x j m : ℕ} {ws new : List ℕ} → v ≡ verdictOf (layerTest k 1 (r .horizon) (length old) 64) → v ≡ Verdict.Accepted
-        → layer m ws ≡ roundAfter j → new ≡ ws ++ drop 64 old → j ≡ k - 1 → x ≡ m → record { answer = answered x; buffer = new } ≡ roundLayerOf f k old
-    vertices-made {m = m} {ws = ws} {new = new} e q drawn wrote asked told =
-        let made : layer m ws ≡ roundLayer 32 (fittingIn r) k = drawn ∙ ap roundAfter asked in
-        let L = roundLayer 32 (fittingIn r) k in
-        let same : new ≡ L .words ++ drop (length (L .words)) old =
-        wrote ∙ ap₂ (λ (x : List ℕ) (n : ℕ). x ++ drop n old) (ap (λ M. M .words) made) (sym (rounds-length 32 (fittingIn r) k)) in
-        ap₂ (λ (x : ℕ) (b : List ℕ). record { answer = answered x; buffer = b }) (told ∙ ap (λ M. M .members) made) same
-        ∙ ap (left old) (through (layerTest k 1 (r .horizon) (length old) 64) (value L) e q ∙ rounds-on)
+  pub vertices-made : {v : Verdict} {x j m : ℕ} {ws new : List ℕ} → v ≡ verdictOf (layerTest k 1 (r .horizon) (length old) 64) → v ≡ Verdict.Accepted → layer m ws ≡ roundAfter j → new ≡ paste old 0 ws 64
+      → j ≡ k - 1 → x ≡ m → record { answer = answered x; buffer = new } ≡ roundLayerOf f k old
+  vertices-made {m = m} {ws = ws} e q drawn wrote asked told =
+      let L = roundLayer 32 (fittingIn r) k in
+      let many : length (L .words) ≡ 64 = rounds-length 32 (fittingIn r) k in
+      let made : layer m ws ≡ L = drawn ∙ ap roundAfter asked in
+      layer-made (λ F. roundLayer 32 F k) 1 64 f old k r R e ws q (ap (λ M. take 64 (M .words)) made ∙ take-all 64 (L .words) (omega arith)) many wrote (told ∙ ap (λ M. M .members) made)
 
 -- ---- the plan
 
@@ -138,7 +136,7 @@ module _ (f old new : List ℕ) where
   by s g = (s ≡ said (onJob g (λ job. planIn job old))) × Buffer g old new (onJob g (λ job. planIn job old))
 
   pub plan-down : {v : Verdict} {x : Refusal} → v ≡ fittingRead (read spots fittings f) .verdict → v ≡ Verdict.Refused x → new ≡ old → Promised (refusalSaid x)
-  plan-down {x = x} p q same = subst (by (refusalSaid x)) (sym (fitting-down f p q)) (refl, same)
+  plan-down {x = x} p q same = subst (by (refusalSaid x)) (sym (file-down f fittings (p ∙ fitting-verdict (read spots fittings f)) q)) (refl, same)
 
   -- so many words were demanded
   module _ (r : ReadFitting) (R : FittingRead f r) {v : Verdict} {size : ℕ} (room : v ≡ verdictOf (roomTest (length old) size)) (as-read : size ≡ r .horizon) where

@@ -17,12 +17,12 @@ use Rattle.reading.specs.Items.{spots}
 use Rattle.jobfile.specs.declared.Verdict.{Verdict}
 use Rattle.jobfile.specs.declared.Verdict.the-variants as Verdict
 use Rattle.jobfile.specs.declared.ReadChoice.{ReadChoice}
-use Rattle.jobfile.specs.declared.ReadFitting.{ReadFitting}
+use Rattle.jobfile.specs.declared.ReadNames.{ReadNames}
 use Rattle.jobfile.specs.Job.{Job, column, size, order, wishes, clashes}
-use Rattle.jobfile.specs.Meaning.{choiceRead, fittingRead, spotOf, spotIn, Few, ChoiceBounds, FittingBounds}
-use Rattle.jobfile.specs.Read.{read, readJob, choices, fittings, either}
+use Rattle.jobfile.specs.Meaning.{choiceRead, namesRead, spotOf, spotIn, Few, ChoiceBounds, NamesBounds}
+use Rattle.jobfile.specs.Read.{read, readJob, choices, either}
 use Rattle.jobfile.proofs.NamingLaws.{mapGot, bytesAt, recordBy, jobBy, column-by, names-same, read-same}
-use Rattle.jobfile.proofs.ReadLaws.{either-choice, either-fitting, choice-spot, fitting-spot}
+use Rattle.jobfile.proofs.ReadLaws.{names-spot}
 use Rattle.jobfile.proofs.StatedLaws.{column-length}
 use Rattle.names.specs.Names.{sameList, lowestNamed}
 use Rattle.names.specs.Likeness.{alike}
@@ -30,7 +30,7 @@ use Rattle.names.proofs.SameLaws.{padded-same, search-cong}
 use Rattle.arguments.specs.Answers.{Answer, value, onJob, foundOr, Said, answered, said, refusalSaid}
 use Rattle.calls.specs.Find.{findIn, findOf}
 use Rattle.calls.specs.Compare.{compareOf}
-use Rattle.calls.proofs.CallLaws.{Taken, choice-taken, fitting-taken, choice-down, choice-down-as, fitting-down, job-down, faultIn, placeIn, takenIn}
+use Rattle.calls.proofs.CallLaws.{Taken, choice-verdict, names-verdict, taken, file-down, choice-down-as, job-down, faultIn, placeIn, takenIn}
 use Rattle.calls.proofs.ToldLaws.{values, tested, test-said}
 
 -- ---- naming
@@ -39,53 +39,26 @@ use Rattle.calls.proofs.ToldLaws.{values, tested, test-said}
 pub spot-asked : (g : Got (Job Spot)) {s : Spot} {n asked : ℕ} → s ≡ spotIn g n → n ≡ asked → s ≡ spotIn g asked
 spot-asked g e same = e ∙ ap (spotIn g) same
 
--- ---- finding: a file is read as its first byte says
+-- ---- finding
 
-of-fitting : (f name : List ℕ) → eqb (getD f 0 0) 70 ≡ true → onJob (readJob fittings f) (λ job. findIn job name) ≡ findOf f name
-of-fitting f name e = sym (ap (λ g. onJob g (λ job. findIn job name)) (read-same f either ∙ ap (mapGot (jobBy f)) (either-fitting spots f e) ∙ sym (read-same f fittings)))
+module _ (f name : List ℕ) where
+  pub find-down : {v : Verdict} {x : Refusal} → v ≡ namesRead (read spots either f) .verdict → v ≡ Verdict.Refused x → refusalSaid x ≡ said (findOf f name)
+  find-down p q = ap said (job-down (λ job. findIn job name) (file-down f either (p ∙ names-verdict (read spots either f)) q))
 
-of-choice : (f name : List ℕ) → eqb (getD f 0 0) 70 ≡ false → onJob (readJob choices f) (λ job. findIn job name) ≡ findOf f name
-of-choice f name e = sym (ap (λ g. onJob g (λ job. findIn job name)) (read-same f either ∙ ap (mapGot (jobBy f)) (either-choice spots f e) ∙ sym (read-same f choices)))
-
-module _ (f name : List ℕ) {b : Bool} (kind : b ≡ eqb (getD f 0 0) 70) where
-  pub find-down-fitting : {v : Verdict} {x : Refusal} → b ≡ true → v ≡ fittingRead (read spots fittings f) .verdict → v ≡ Verdict.Refused x → refusalSaid x ≡ said (findOf f name)
-  find-down-fitting t p q = ap said (job-down (λ job. findIn job name) (fitting-down f p q) ∙ of-fitting f name (sym kind ∙ t))
-
-  pub find-down-choice : {v : Verdict} {x : Refusal} → b ≡ false → v ≡ choiceRead (read spots choices f) .verdict → v ≡ Verdict.Refused x → refusalSaid x ≡ said (findOf f name)
-  find-down-choice t p q = ap said (job-down (λ job. findIn job name) (choice-down f p q) ∙ of-choice f name (sym kind ∙ t))
-
--- names by their spots in the file are those of the job
-search-is : (f name : List ℕ) (takes : ℕ → Bool) (t : Taken (read spots takes f)) (n : ℕ) (starts lens : List ℕ) → n ≡ size (t .job) → ((i : ℕ) → spotOf starts lens i ≡ spotIn (read spots takes f) i)
-    → foundOr (lowestNamed name n (λ i. take (getD lens i 0) (drop (getD starts i 0) f))) NameNotFound ≡ onJob (readJob takes f) (λ job. findIn job name)
-search-is f name takes t n starts lens en h =
-    ap (λ (o : Option ℕ). foundOr o NameNotFound) (
-    ap (λ (k : ℕ). lowestNamed name k (λ i. take (getD lens i 0) (drop (getD starts i 0) f))) en
-    ∙ search-cong name (size (t .job)) _ (λ i. getD (map (λ r. r .name) (map (recordBy f) (t .job .records))) i [])
-    (λ i. ap (bytesAt f) (h i ∙ ap (λ x. spotIn x i) (t .is)) ∙ sym (names-same f (t .job .records) i))
-    )
-    ∙ sym (ap (λ g. onJob g (λ job. findIn job name)) (read-same f takes ∙ ap (mapGot (jobBy f)) (t .is)))
-
-module _ (f name : List ℕ) {b : Bool} (kind : b ≡ eqb (getD f 0 0) 70) {s : Said ℕ} {o : Option ℕ} (told : s ≡ said (foundOr o NameNotFound)) where
-  -- the search was over n names
-  pub find-fitting : {n : ℕ} (r : ReadFitting) → b ≡ true → r ≡ fittingRead (read spots fittings f) → FittingBounds f r → r .verdict ≡ Verdict.Accepted
-      → o ≡ lowestNamed name n (λ i. take (getD (r .lens) i 0) (drop (getD (r .starts) i 0) f)) → n ≡ r .steps → s ≡ said (findOf f name)
-  find-fitting {n} r c e bounds accepted p all =
-      let g = read spots fittings f in
-      let t = fitting-taken g (ap (λ x. x .verdict) e) accepted in
+  -- the search was over n names, which are those of the job by their spots in the file
+  pub find-made : {s : Said ℕ} {o : Option ℕ} {n : ℕ} (r : ReadNames) → r ≡ namesRead (read spots either f) → NamesBounds f r → r .verdict ≡ Verdict.Accepted
+      → s ≡ said (foundOr o NameNotFound) → o ≡ lowestNamed name n (λ i. take (getD (r .lens) i 0) (drop (getD (r .starts) i 0) f)) → n ≡ r .count → s ≡ said (findOf f name)
+  find-made r e bounds accepted told p all =
+      let g = read spots either f in
+      let t = taken g (sym (ap (λ x. x .verdict) e ∙ names-verdict g) ∙ accepted) in
       told
-      ∙ ap said (ap (λ (o : Option ℕ). foundOr o NameNotFound) p
-      ∙ search-is f name fittings t n (r .starts) (r .lens) (all ∙ ap (λ x. x .steps) e ∙ ap (λ x. fittingRead x .steps) (t .is)) (λ i. ap (λ x. spotOf (x .starts) (x .lens) i) e ∙ fitting-spot g (bounds .4) i)
-      ∙ of-fitting f name (sym kind ∙ c))
-
-  pub find-choice : {n : ℕ} (r : ReadChoice) → b ≡ false → r ≡ choiceRead (read spots choices f) → ChoiceBounds f r → r .verdict ≡ Verdict.Accepted
-      → o ≡ lowestNamed name n (λ i. take (getD (r .lens) i 0) (drop (getD (r .starts) i 0) f)) → n ≡ r .articles → s ≡ said (findOf f name)
-  find-choice {n} r c e bounds accepted p all =
-      let g = read spots choices f in
-      let t = choice-taken g (ap (λ x. x .verdict) e) accepted in
-      told
-      ∙ ap said (ap (λ (o : Option ℕ). foundOr o NameNotFound) p
-      ∙ search-is f name choices t n (r .starts) (r .lens) (all ∙ ap (λ x. x .articles) e ∙ ap (λ x. choiceRead x .articles) (t .is)) (λ i. ap (λ x. spotOf (x .starts) (x .lens) i) e ∙ choice-spot g (bounds .3) i)
-      ∙ of-choice f name (sym kind ∙ c))
+      ∙ ap said (ap (λ (o : Option ℕ). foundOr o NameNotFound) (
+      p
+      ∙ ap (λ (k : ℕ). lowestNamed name k (λ i. take (getD (r .lens) i 0) (drop (getD (r .starts) i 0) f))) (all ∙ ap (λ x. x .count) e ∙ ap (λ x. namesRead x .count) (t .is))
+      ∙ search-cong name (size (t .job)) _ (λ i. getD (map (λ r. r .name) (map (recordBy f) (t .job .records))) i [])
+      (λ i. ap (bytesAt f) (ap (λ x. spotOf (x .starts) (x .lens) i) e ∙ names-spot g (bounds .2) i ∙ ap (λ x. spotIn x i) (t .is)) ∙ sym (names-same f (t .job .records) i))
+      )
+      ∙ sym (ap (λ g. onJob g (λ job. findIn job name)) (read-same f either ∙ ap (mapGot (jobBy f)) (t .is))))
 
 -- ---- comparing
 
@@ -119,17 +92,17 @@ module _ (f s : List ℕ) where
 
   module _ (a : ReadChoice) (ea : a ≡ choiceRead (read spots choices f)) (ba : ChoiceBounds f a) (va : a .verdict ≡ Verdict.Accepted) where
     first : Taken (read spots choices f)
-    first = choice-taken (read spots choices f) (ap (λ x. x .verdict) ea) va
+    first = taken (read spots choices f) (sym (ap (λ x. x .verdict) ea ∙ choice-verdict (read spots choices f)) ∙ va)
 
     is-first : readJob choices f ≡ got (jobBy f (first .job)) (first .end)
     is-first = read-same f choices ∙ ap (mapGot (jobBy f)) (first .is)
 
     pub compare-second : {v : Verdict} {x : Refusal} → v ≡ choiceRead (read spots choices s) .verdict → v ≡ Verdict.Refused x → refusalSaid x ≡ said (compareOf f s)
-    compare-second p q = ap said (sym (ap₂ compared is-first (choice-down s p q)))
+    compare-second p q = ap said (sym (ap₂ compared is-first (file-down s choices (p ∙ choice-verdict (read spots choices s)) q)))
 
     both-read : (b : ReadChoice) {r t : Bool} → b ≡ choiceRead (read spots choices s) → ChoiceBounds s b → b .verdict ≡ Verdict.Accepted → r ≡ byArrays a b → r ≡ t → answered t ≡ said (compareOf f s)
     both-read b eb bb vb e k =
-        let second = choice-taken (read spots choices s) (ap (λ x. x .verdict) eb) vb in
+        let second = taken (read spots choices s) (sym (ap (λ x. x .verdict) eb ∙ choice-verdict (read spots choices s)) ∙ vb) in
         ap (λ (x : Bool). answered x) (
         sym k ∙ e ∙ ap₂ byArrays (ea ∙ ap choiceRead (first .is)) (eb ∙ ap choiceRead (second .is))
         ∙ alike-is (first .job) (second .job) (first .end) (second .end) (subst (Few 64) (first .is) (ba .3)) (subst (Few 64) (second .is) (bb .3)) ∙ sym (alike-by f s (first .job) (second .job))

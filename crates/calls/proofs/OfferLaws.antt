@@ -30,7 +30,7 @@ use Rattle.arguments.specs.Tests.{groupsTest, goalsTest}
 use Rattle.arguments.specs.Meaning.{networkIn}
 use Rattle.calls.specs.Choose.{Chosen, chosenOr, searched}
 use Rattle.calls.specs.Offer.{offerIn, offerOf}
-use Rattle.calls.proofs.CallLaws.{choice-down, job-down, on-job, ChoiceRead}
+use Rattle.calls.proofs.CallLaws.{choice-verdict, file-down, job-down, on-job, ChoiceRead}
 use Rattle.calls.proofs.ChoiceLaws.{searched-is}
 
 -- ---- what the program lends itself passes the tests
@@ -72,7 +72,7 @@ own-passed N wanted =
 
 module _ (f : List ℕ) where
   pub offer-down : {v : Verdict} {x : Refusal} → v ≡ choiceRead (read spots choices f) .verdict → v ≡ Verdict.Refused x → refusalSaid x ≡ said (offerOf f)
-  offer-down p q = ap said (job-down (λ job. offerIn job) (choice-down f p q))
+  offer-down p q = ap said (job-down (λ job. offerIn job) (file-down f choices (p ∙ choice-verdict (read spots choices f)) q))
 
   -- the choice was made for this order
   pub offer-made : (r : ReadChoice) → ChoiceRead f r → {c : Choice} {wanted : ℕ} → c ≡ offered (networkIn r) wanted → wanted ≡ r .order → said (searched c) ≡ said (offerOf f)

@@ -1,10 +1,10 @@
 -- What an answer says, as numbers: they are compared one by one. Assumes nothing.
 use mathlib.Core.Path.{_≡_, refl, ap, ap₂, sym, _∙_}
-use mathlib.Core.Bool.{Bool, true, false}
+use mathlib.Core.Bool.{Bool}
 use Prim.Native.Nat.{ℕ}
 use native.Mathlib.Omega.{arith}
 use Rattle.sets.specs.Ranges.{num}
-use Rattle.sets.proofs.Ranges.{true-num, false-num}
+use Rattle.sets.proofs.Ranges.{num-same}
 use Rattle.reading.specs.declared.Reason.{Reason}
 use Rattle.arguments.specs.Answers.{foundOr, Said, refusedBy, answered, said}
 use Rattle.names.specs.declared.Holder.{Holder}
@@ -48,10 +48,6 @@ number-said (answered y) v e = ap (λ (i : ℕ). answered i) e
 choice-is : (t : Said Chosen) {x aside : ℕ} → values t ≡ 1 → selected t ≡ x → setBy t ≡ aside → t ≡ answered (record { selection = x; aside = aside })
 choice-is (refusedBy reason place) v e h = absurd (omega arith)
 choice-is (answered c) v e h = ap₂ (λ (x aside : ℕ). answered (record { selection = x; aside = aside })) e h
-
-num-same : (a b : Bool) → num a ≡ num b → a ≡ b
-num-same true b e = sym (true-num b (sym e))
-num-same false b e = sym (false-num b (sym e))
 
 pub test-said : (t : Said Bool) (b : Bool) → values t ≡ 1 → tested t ≡ num b → t ≡ answered b
 test-said (refusedBy reason place) b v e = absurd (omega arith)

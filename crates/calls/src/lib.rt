@@ -168,7 +168,7 @@ pub fn fact_layer(file: &[u8], k: usize, words: &mut [u32]) -> FactsAnswer
     if let Verdict::Refused(refusal) = verdict {
         return FactsAnswer::Refused(refusal);
     }
-    let tested = arguments::layer(k, 0, read.horizon, words.len(), 32);
+    let tested = arguments::layer(k, 0, read.horizon, words.len(), written::FACT_WORDS);
     if let Verdict::Refused(refusal) = tested {
         return FactsAnswer::Refused(refusal);
     }
@@ -194,7 +194,7 @@ pub fn round_layer(file: &[u8], k: usize, words: &mut [u64]) -> VerticesAnswer
     if let Verdict::Refused(refusal) = verdict {
         return VerticesAnswer::Refused(refusal);
     }
-    let tested = arguments::layer(k, 1, read.horizon, words.len(), 64);
+    let tested = arguments::layer(k, 1, read.horizon, words.len(), written::VERTEX_WORDS);
     if let Verdict::Refused(refusal) = tested {
         return VerticesAnswer::Refused(refusal);
     }
@@ -265,24 +265,14 @@ fn answer_of(holder: Holder) -> FindAnswer
 pub fn find(file: &[u8], name: &[u8]) -> FindAnswer
     ensures { λ r. ⌜ findTold r ≡ said (findOf (now (file .entry)) (now (name .entry))) ⌝ }
 {
-    if jobfile::is_fitting(file) {
-        let read = jobfile::read_fitting(file);
-        let verdict = read.verdict;
-        if let Verdict::Refused(refusal) = verdict {
-            return FindAnswer::Refused(refusal);
-        }
-        let starts = read.starts;
-        let lens = read.lens;
-        return answer_of(names::search(file, starts, lens, read.steps, name));
-    }
-    let read = jobfile::read_choice(file);
+    let read = jobfile::read_names(file);
     let verdict = read.verdict;
     if let Verdict::Refused(refusal) = verdict {
         return FindAnswer::Refused(refusal);
     }
     let starts = read.starts;
     let lens = read.lens;
-    answer_of(names::search(file, starts, lens, read.articles, name))
+    answer_of(names::search(file, starts, lens, read.count, name))
 }
 
 // Whether two files are alike, or why one of them is refused.

@@ -21,7 +21,7 @@ use Rattle.sets.proofs.Bits.{bit-shift, in-without, top-in, yes-part, part-in}
 use Rattle.sets.proofs.Lowest.{some-member}
 use Rattle.sets.proofs.First.{first-none, none-first, first-smallest, smallest-first}
 use Rattle.reading.specs.declared.Reason.{Reason}
-use Rattle.reading.specs.declared.Reason.the-variants.{OutOfRange, ShortBuffer, FalsePartition, LiveOutsideFile, BadGoal, NoSelection, NoPlan}
+use Rattle.reading.specs.declared.Reason.the-variants.{OutOfRange, ShortBuffer, FalsePartition, LiveOutsideFile, BadGoal, NoPlan}
 use Rattle.reading.specs.Reasons.{numberOf, answers}
 use Rattle.reading.specs.Got.{Got, got, refused}
 use Rattle.jobfile.specs.Job.{Record, Job, namesOf, size, wishCount, order, wishes, clashes, horizon}
@@ -356,17 +356,14 @@ pub found-taken : {A : Type 0} (o : Option A) (r : Reason) → answers (numberOf
 found-taken none r t = t
 found-taken (some x) r t = refl
 
-pub found-none : {A : Type 0} (o : Option A) (r : Reason) → Exactly (Says (said (foundOr o r)) (numberOf r)) (o ≡ none)
-found-none none r = (λ w. refl, λ e. (0, refl))
+-- the reason is told exactly where nothing is found, and then at place 0
+pub found-none : {A : Type 0} (o : Option A) (r : Reason) → (Says (said (foundOr o r)) (numberOf r) → o ≡ none) × (o ≡ none → said (foundOr o r) ≡ refusedBy (numberOf r) 0)
+found-none none r = (λ w. refl, λ e. refl)
 found-none (some x) r = (λ w. absurd (no-refusal (w .1)), λ e. absurd (Option·none-ne-some x (sym e)))
 
 pub found-some : {A : Type 0} (o : Option A) (r : Reason) (x : A) → Exactly (said (foundOr o r) ≡ answered x) (o ≡ some x)
 found-some none r x = (λ e. absurd (no-refusal (sym e)), λ e. absurd (Option·none-ne-some x e))
 found-some (some y) r x = (λ e. ap some (one-value e), λ e. ap answered (Option·some-injective y x e))
-
-pub found-nothing : {A : Type 0} (o : Option A) (r : Reason) → Exactly (said (foundOr o r) ≡ refusedBy (numberOf r) 0) (o ≡ none)
-found-nothing none r = (λ e. refl, λ e. refl)
-found-nothing (some x) r = (λ e. absurd (no-refusal e), λ e. absurd (Option·none-ne-some x (sym e)))
 
 -- the lowest number with a name
 pub lowest-exactly : (name : List ℕ) (job : Job (List ℕ)) (i : ℕ)

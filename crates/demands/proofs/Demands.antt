@@ -2,7 +2,7 @@
 -- is what its contract states (`said (passOf ..)`, `partitionOf .. .answer`, ..: each call's contract is an equation with it). Assumes nothing.
 use mathlib.Core.Path.{_≡_, refl, sym, ap, _∙_, subst}
 use mathlib.Core.Logic.{_⊎_}
-use mathlib.Core.Bool.{Bool, true, false}
+use mathlib.Core.Bool.{Bool, true}
 use mathlib.Core.List.{List, [], _∷_, _++_}
 use Prim.Native.Nat.{ℕ, _≤_, _<_}
 use native.Mathlib.Omega.{arith}
@@ -32,7 +32,7 @@ use Rattle.planning.specs.Rounds.{fittingOf, Plan, fewest}
 use Rattle.planning.specs.Layers.{factLayer, roundLayer}
 use Rattle.planning.proofs.PlanLaws.{fewest-none, none-fewest}
 use Rattle.layers.proofs.LayerCode.{facts-length, rounds-length}
-use Rattle.arguments.specs.Answers.{Answer, refusal, value, onJob, Said, refusedBy, answered, said, accepted}
+use Rattle.arguments.specs.Answers.{Answer, refusal, value, onJob, refusedBy, answered, said, accepted}
 use Rattle.calls.specs.Partition.{partitionIn, partitionOf}
 use Rattle.calls.specs.Pass.{passIn, passOf}
 use Rattle.calls.specs.Choose.{chosenOr, chooseIn, chooseOf}
@@ -43,7 +43,7 @@ use Rattle.calls.specs.Find.{findIn, findOf}
 use Rattle.calls.specs.Compare.{compareOf}
 use Rattle.demands.specs.Demands.{Exactly, Refuses, Says, Off, Wrong, absentLayer, shortBuffer, falsePartition, absentArticle, wrongGoal, wrongGoals, Has, Alike, ChoiceKept, PlanKept}
 use Rattle.demands.proofs.ReasonLaws.{file-reason}
-use Rattle.demands.proofs.DemandLaws.{exactly-then, tests-end, accepted-exactly, both-pass, room-checks, layer-checks, groups-checks, pass-checks, goals-checks, file-exactly, file-tests, file-taken, file-only, left-exactly, left-taken, left-kept, left-value, name-past, chosen-taken, chosen-none, choice-is, choice-kept, found-taken, found-none, found-some, found-nothing, lowest-exactly, nobody-exactly, alike-exactly, plan-is, plan-kept}
+use Rattle.demands.proofs.DemandLaws.{exactly-then, tests-end, accepted-exactly, both-pass, room-checks, layer-checks, groups-checks, pass-checks, goals-checks, file-exactly, file-tests, file-taken, file-only, left-exactly, left-taken, left-kept, left-value, name-past, chosen-taken, chosen-none, choice-is, choice-kept, found-taken, found-none, found-some, lowest-exactly, nobody-exactly, alike-exactly, plan-is, plan-kept}
 
 -- ---- demand 1
 
@@ -195,8 +195,8 @@ demand-1-find-lowest file name {job} e i =
 pub demand-1-find-none : (file name : List ℕ) {job : Job (List ℕ)} {end : ℕ} → readJob either file ≡ got job end → Exactly (said (findOf file name) ≡ refusedBy 16 0) ((i : ℕ) → Has job name i → ⊥)
 demand-1-find-none file name {job} e =
     let is : said (findOf file name) ≡ said (findIn job name) = ap (λ g. said (onJob g (λ job. findIn job name))) e in
-    let nothing = found-nothing (lowestNamed name (size job) (λ i. getD (namesOf (job .records)) i [])) NameNotFound in
-    exactly-then (λ r. nothing .0 (sym is ∙ r), λ s. is ∙ nothing .1 s) (nobody-exactly name job)
+    let (to, back) = found-none (lowestNamed name (size job) (λ i. getD (namesOf (job .records)) i [])) NameNotFound in
+    exactly-then (λ r. to (0, sym is ∙ r), λ s. is ∙ back s) (nobody-exactly name job)
 
 pub demand-1-alike : (a b : Job (List ℕ)) → Exactly (alike a b ≡ true) (Alike a b)
 demand-1-alike a b = alike-exactly a b
@@ -295,4 +295,4 @@ demand-3-no-plan file buffer t {job} e =
     let i : planOf file buffer ≡ planIn job buffer = ap (λ g. onJob g (λ job. planIn job buffer)) e in
     let is = i ∙ plan-is buffer job (sym (ap (λ a. accepted (said a)) i) ∙ t) in
     let (to, back) = found-none (fewest (fittingOf job) (horizon job)) NoPlan in
-    (λ (place, r). fewest-none (fittingOf job) (horizon job) (to (place, sym (ap said is) ∙ r)), λ h. let (place, r) = back (none-fewest (fittingOf job) (horizon job) h) in (place, ap said is ∙ r))
+    (λ (place, r). fewest-none (fittingOf job) (horizon job) (to (place, sym (ap said is) ∙ r)), λ h. (0, ap said is ∙ back (none-fewest (fittingOf job) (horizon job) h)))

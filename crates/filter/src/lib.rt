@@ -15,6 +15,9 @@ pub mod goals;
 
 use sets::word;
 
+// The most groups: as many as there may be articles.
+const GROUPS: usize = 64;
+
 // The larger of two words.
 fn larger(a: u64, b: u64) -> u64
     ensures { λ r. ⌜ r ≡ max a b ⌝ }
@@ -60,7 +63,7 @@ fn sum(best: &[u64; 64]) -> u64
 {
     let mut all: u64 = 0;
     let mut j: usize = 0;
-    while j < 64 {
+    while j < GROUPS {
         all = all + best[j];
         j += 1;
     }

@@ -3,13 +3,13 @@ use mathlib.Core.Path.{_≡_, refl, ap, sym, _∙_, subst}
 use mathlib.Core.Logic.{_≢_}
 use mathlib.Core.List.{List, [], _∷_, _++_, append-assoc, append-nil}
 use Prim.Native.Nat.{ℕ, suc, _+_, _-_, _≤_, _<_, zero-le}
-use native.Mathlib.Decide.{decLt, ℕ-discrete}
+use native.Mathlib.Decide.{ℕ-discrete}
 use native.Mathlib.Numerals.{add-one}
 use native.Mathlib.Omega.{arith}
-use lib.ListN.{length, getD, set, replicate, length-set, length-replicate, getD-replicate, List·getD-eq-default}
+use lib.ListN.{length, getD, set, replicate, length-set, length-replicate}
 use lib.Seq.{getD-set-same, getD-set-other}
 use Rattle.sets.specs.Ranges.{listTo}
-use Rattle.sets.proofs.Ranges.{list-cong, list-turn}
+use Rattle.sets.proofs.Ranges.{list-cong, list-turn, zeros}
 use Rattle.reading.specs.declared.Spot.{Spot}
 use Rattle.reading.specs.declared.item.Cursor.{Cursor}
 use Rattle.reading.specs.declared.item.Cursor.the-variants as Cursor
@@ -28,11 +28,7 @@ use Rattle.reading.proofs.StepLaws.{and-assoc, settled, advance}
 -- ---- columns
 
 pub column-none : Column 0 (replicate {A = ℕ} 64 0)
-column-none = record { size = length-replicate {A = ℕ} 64 0; past = λ i l. go i (decLt i 64) }
-  where
-    go : (i : ℕ) → Dec (i < 64) → getD (replicate {A = ℕ} 64 0) i 0 ≡ 0
-    go i (yes h) = getD-replicate 64 i 0 0 h
-    go i (no h) = List·getD-eq-default (replicate {A = ℕ} 64 0) 0 {n = i} (omega (arith, length-replicate {A = ℕ} 64 0))
+column-none = record { size = length-replicate {A = ℕ} 64 0; past = λ i l. zeros 64 i }
 
 pub column-set : (i : ℕ) (l : List ℕ) (v : ℕ) → Column i l → Column (i + 1) (set l i v)
 column-set i l v c = record { size = length-set l i v ∙ c .size; past = λ j h. getD-set-other l i j v 0 (λ e. let z : ⊥ = omega arith in z) ∙ c .past j (omega arith) }

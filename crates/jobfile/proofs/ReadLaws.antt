@@ -2,11 +2,11 @@
 use mathlib.Core.Path.{_≡_, refl, ap, sym, _∙_, subst}
 use mathlib.Core.Bool.{Bool, true, false, _||_}
 use mathlib.Core.List.{List, [], _∷_, map}
-use Prim.Native.Nat.{ℕ, zero, suc, _+_, _≤_, _<_, zero-le}
+use Prim.Native.Nat.{ℕ, _+_, _≤_, _<_, zero-le}
 use native.Mathlib.Decide.{decLt}
 use native.Mathlib.Omega.{arith}
 use lib.Dec.{eqb}
-use lib.ListN.{length, getD, length-map, List·getD-eq-default}
+use lib.ListN.{length, getD, length-map, List·getD-eq-default, List·getD-map}
 use lib.Seq.{ext-getD}
 use Rattle.sets.specs.Ranges.{listTo}
 use Rattle.sets.proofs.Ranges.{list-length, list-at, list-past, list-map}
@@ -16,6 +16,7 @@ use Rattle.jobfile.specs.declared.Verdict.{Verdict}
 use Rattle.jobfile.specs.declared.Verdict.the-variants as Verdict
 use Rattle.jobfile.specs.declared.ReadChoice.{ReadChoice}
 use Rattle.jobfile.specs.declared.ReadFitting.{ReadFitting}
+use Rattle.jobfile.specs.declared.ReadNames.{ReadNames}
 use Rattle.reading.specs.declared.item.Cursor.{Cursor}
 use Rattle.reading.specs.declared.item.Cursor.the-variants as Cursor
 use Rattle.jobfile.specs.declared.records.Kind.{Kind}
@@ -28,7 +29,7 @@ use Rattle.jobfile.specs.Job.{Record, Job, namesOf, wishes, clashes, nee
 use Rattle.jobfile.specs.Read.{recordAt, layoutAt, read, choices, fittings, either}
 use Rattle.jobfile.specs.Valid.{Bytes}
 use Rattle.reading.specs.Meaning.{gotBy, readFrom, finished, ended}
-use Rattle.jobfile.specs.Meaning.{lensOf, spotOf, spotIn, recordFrom, recordsOf, Tidy, Column, Columns, padded, startsOf, choiceRead, fittingRead, Few, NamesWithin, ChoiceBounds, FittingBounds}
+use Rattle.jobfile.specs.Meaning.{lensOf, spotOf, spotIn, recordFrom, recordsOf, Tidy, Column, Columns, padded, startsOf, choiceRead, fittingRead, namesRead, Few, NamesWithin, ChoiceBounds, FittingBounds, NamesBounds}
 use Rattle.reading.proofs.StepLaws.{each-none, each-more}
 use Rattle.jobfile.proofs.StepLaws.{body-is, file-is}
 
@@ -178,14 +179,14 @@ read-by : {N : Type 0} (names : Naming N) (takes takes′ : ℕ → Bool) (f : L
 unfolding read layoutAt
 read-by names takes takes′ f e = rw (kind-by takes takes′ f e)
 
-pub either-fitting : {N : Type 0} (names : Naming N) (f : List ℕ) → eqb (getD f 0 0) 70 ≡ true → read names either f ≡ read names fittings f
+either-fitting : {N : Type 0} (names : Naming N) (f : List ℕ) → eqb (getD f 0 0) 70 ≡ true → read names either f ≡ read names fittings f
 either-fitting names f e = read-by names either fittings f (go (eqb (getD f 0 0) 67) ∙ sym e)
   where
     go : (b : Bool) → b || eqb (getD f 0 0) 70 ≡ true
     go true = refl
     go false = e
 
-pub either-choice : {N : Type 0} (names : Naming N) (f : List ℕ) → eqb (getD f 0 0) 70 ≡ false → read names either f ≡ read names choices f
+either-choice : {N : Type 0} (names : Naming N) (f : List ℕ) → eqb (getD f 0 0) 70 ≡ false → read names either f ≡ read names choices f
 either-choice names f e = read-by names either choices f (go (eqb (getD f 0 0) 67))
   where
     go : (b : Bool) → b || eqb (getD f 0 0) 70 ≡ b
@@ -196,33 +197,52 @@ either-choice names f e = read-by names either choices f (go (eqb (getD f 0 0) 6
 pub spot-past : (starts lens : List ℕ) (i : ℕ) → length starts ≡ 64 → length lens ≡ 64 → 64 ≤ i → record { start = 0; len = 0 } ≡ spotOf starts lens i
 spot-past starts lens i p q h = rw (List·getD-eq-default starts 0 {n = i} (omega arith), List·getD-eq-default lens 0 {n = i} (omega arith))
 
--- the columns of names hold the spots
-start-at : (records : List (Record Spot)) (i : ℕ) → getD (startsOf records) i 0 ≡ getD (namesOf records) i (spots .absent) .start
-start-at [] i = refl
-start-at (r ∷ rs) zero = refl
-start-at (r ∷ rs) (suc i) = start-at rs i
-
-len-at : (records : List (Record Spot)) (i : ℕ) → getD (lensOf records) i 0 ≡ getD (namesOf records) i (spots .absent) .len
-len-at [] i = refl
-len-at (r ∷ rs) zero = refl
-len-at (r ∷ rs) (suc i) = len-at rs i
+-- the columns of names hold the spots: h is the start or the length
+name-part : (h : Spot → ℕ) → h (spots .absent) ≡ 0 → (records : List (Record Spot)) → length records ≤ 64 → (i : ℕ)
+    → getD (padded 64 (map (λ r. h (r .name)) records)) i 0 ≡ h (getD (namesOf records) i (spots .absent))
+name-part h z records few i =
+    let nobody : Record Spot = record { before = []; name = spots .absent; after = [] } in
+    padded-at 64 (map (λ r. h (r .name)) records) (omega (arith, length-map records (λ r. h (r .name)))) i
+    ∙ ap (getD (map (λ r. h (r .name)) records) i) (sym z)
+    ∙ List·getD-map (λ r. h (r .name)) records i nobody
+    ∙ sym (ap h (List·getD-map (λ r. r .name) records i nobody))
 
 spot-at : (records : List (Record Spot)) → length records ≤ 64 → (i : ℕ) → spotOf (padded 64 (startsOf records)) (padded 64 (lensOf records)) i ≡ getD (namesOf records) i (spots .absent)
-spot-at records few i = go (decLt i 64)
-  where
-    both : (s l : ℕ) → s ≡ getD (namesOf records) i (spots .absent) .start → l ≡ getD (namesOf records) i (spots .absent) .len → record { start = s; len = l } ≡ getD (namesOf records) i (spots .absent)
-    both s l p q = rw (p, q)
+spot-at records few i = rw (name-part (λ s. s .start) refl records few i, name-part (λ s. s .len) refl records few i)
 
-    go : Dec (i < 64) → spotOf (padded 64 (startsOf records)) (padded 64 (lensOf records)) i ≡ getD (namesOf records) i (spots .absent)
-    go (yes h) = both _ _ (list-at 64 (λ j. getD (startsOf records) j 0) 0 i h ∙ start-at records i) (list-at 64 (λ j. getD (lensOf records) j 0) 0 i h ∙ len-at records i)
-    go (no h) =
-        let none = List·getD-eq-default (namesOf records) (spots .absent) {n = i} (omega (arith, length-map records (λ r. r .name))) in
-        both _ _ (list-past 64 (λ j. getD (startsOf records) j 0) 0 i (omega arith) ∙ sym (ap (λ (s : Spot). s .start) none)) (list-past 64 (λ j. getD (lensOf records) j 0) 0 i (omega arith) ∙ sym (ap (λ (s : Spot). s .len) none))
+pub names-spot : (g : Got (Job Spot)) → Few 64 g → (i : ℕ) → spotOf (namesRead g .starts) (namesRead g .lens) i ≡ spotIn g i
+names-spot (refused reason place) few i = spot-at [] zero-le i
+names-spot (got job end) few i = spot-at (job .records) (omega (arith, few .0, few .1)) i
 
-pub choice-spot : (g : Got (Job Spot)) → Few 64 g → (i : ℕ) → spotOf (choiceRead g .starts) (choiceRead g .lens) i ≡ spotIn g i
-choice-spot (refused reason place) few i = spot-at [] zero-le i
-choice-spot (got job end) few i = spot-at (job .records) (omega (arith, few .0, few .1)) i
+-- n names of what was read
+abbrev fittingNames : ReadFitting → ℕ → ReadNames
+fittingNames r n = record { verdict = r .verdict; count = n; starts = r .starts; lens = r .lens }
 
-pub fitting-spot : (g : Got (Job Spot)) → Few 32 g → (i : ℕ) → spotOf (fittingRead g .starts) (fittingRead g .lens) i ≡ spotIn g i
-fitting-spot (refused reason place) few i = spot-at [] zero-le i
-fitting-spot (got job end) few i = spot-at (job .records) (omega (arith, few .0, few .1)) i
+abbrev choiceNames : ReadChoice → ℕ → ReadNames
+choiceNames r n = record { verdict = r .verdict; count = n; starts = r .starts; lens = r .lens }
+
+-- a file of either kind is read as its first byte says
+module _ (f : List ℕ) {b : Bool} (kind : b ≡ eqb (getD f 0 0) 70) where
+  pub fitting-names : {r : ReadFitting} {n : ℕ} → b ≡ true → r ≡ fittingRead (read spots fittings f) → FittingBounds f r → n ≡ r .steps
+      → (fittingNames r n ≡ namesRead (read spots either f)) × NamesBounds f (fittingNames r n)
+  fitting-names {r} t e (steps, facts, rounds, within, few, bytes) all =
+      let same = sym (either-fitting spots f (sym kind ∙ t)) in
+      (ap (fittingNames r) all ∙ ap (λ x. fittingNames x (x .steps)) e ∙ go (read spots fittings f) ∙ ap namesRead same, (omega arith, within, subst (Few 64) same (more (read spots fittings f) few)))
+    where
+      go : (g : Got (Job Spot)) → fittingNames (fittingRead g) (fittingRead g .steps) ≡ namesRead g
+      go (refused reason place) = refl
+      go (got job end) = refl
+
+      more : (g : Got (Job Spot)) → Few 32 g → Few 64 g
+      more (refused reason place) few = tt
+      more (got job end) few = (few .0, omega (arith, few .1))
+
+  pub choice-names : {r : ReadChoice} {n : ℕ} → b ≡ false → r ≡ choiceRead (read spots choices f) → ChoiceBounds f r → n ≡ r .articles
+      → (choiceNames r n ≡ namesRead (read spots either f)) × NamesBounds f (choiceNames r n)
+  choice-names {r} t e (articles, wanted, within, few) all =
+      let same = sym (either-choice spots f (sym kind ∙ t)) in
+      (ap (choiceNames r) all ∙ ap (λ x. choiceNames x (x .articles)) e ∙ go (read spots choices f) ∙ ap namesRead same, (omega arith, within, subst (Few 64) same few))
+    where
+      go : (g : Got (Job Spot)) → choiceNames (choiceRead g) (choiceRead g .articles) ≡ namesRead g
+      go (refused reason place) = refl
+      go (got job end) = refl

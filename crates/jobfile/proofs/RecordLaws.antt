@@ -12,7 +12,7 @@ use borrow.Author.Tests.{eq-eqb, ne-eqb, eqb-true, eqb-false}
 use Rattle.sets.specs.Ranges.{num}
 use Rattle.sets.specs.Sets.{bit, member}
 use Rattle.sets.proofs.Ranges.{num-le}
-use Rattle.sets.proofs.Bits.{num-member, member-yes, member-no}
+use Rattle.sets.proofs.Bits.{member-num, num-member}
 use Rattle.reading.specs.Got.{Reader, optional}
 use Rattle.reading.specs.Items.{bytesIn, nameAt}
 use Rattle.jobfile.specs.Layout.{Field, set, amount, width, Layout, nameBit, bits}
@@ -54,11 +54,7 @@ marked-map (field ∷ fields) m k h o =
 map-marked : (fields : List (List ℕ)) (m k : ℕ) → m / 2 ^ k ≡ mapOf fields → Marked fields m k
 unfolding mapOf
 map-marked [] m k e = tt
-map-marked (field ∷ fields) m k e = (mark (not (isEmpty field)) (omega (arith, bit-is m k, num-le (not (isEmpty field)))), map-marked fields m (suc k) (omega (arith, next-bit m k, num-le (not (isEmpty field)))))
-  where
-    mark : (b : Bool) → bit m k ≡ num b → member m k ≡ b
-    mark true q = member-yes m k q
-    mark false q = member-no m k q
+map-marked (field ∷ fields) m k e = (member-num m k (not (isEmpty field)) (omega (arith, bit-is m k, num-le (not (isEmpty field)))), map-marked fields m (suc k) (omega (arith, next-bit m k, num-le (not (isEmpty field)))))
 
 map-below : (fields : List (List ℕ)) → mapOf fields < 2 ^ length fields
 unfolding mapOf

@@ -16,8 +16,9 @@ use Rattle.jobfile.specs.declared.Verdict.{Verdict}
 use Rattle.jobfile.specs.declared.Verdict.the-variants as Verdict
 use Rattle.jobfile.specs.declared.ReadChoice.{ReadChoice}
 use Rattle.jobfile.specs.declared.ReadFitting.{ReadFitting}
+use Rattle.jobfile.specs.declared.ReadNames.{ReadNames}
 use Rattle.reading.specs.Items.{spots}
-use Rattle.jobfile.specs.Read.{read, choices, fittings}
+use Rattle.jobfile.specs.Read.{read, choices, fittings, either}
 use Rattle.jobfile.specs.Valid.{Bytes}
 use Rattle.jobfile.specs.Job.{Record, Job, namesOf, size, wishCount, order, wishes, clashes, factCount, horizon, start, goal, needs, gives, takes}
 
@@ -123,6 +124,11 @@ fittingRead (got job end) = record {
   lens = padded 64 (lensOf (job .records));
 }
 
+-- the names of a file of either kind, likewise
+abbrev pub namesRead : Got (Job Spot) → ReadNames
+namesRead (refused reason place) = record { verdict = Verdict.Refused (record { reason = reason; place = place }); count = 0; starts = padded 64 []; lens = padded 64 [] }
+namesRead (got job end) = record { verdict = Verdict.Accepted; count = size job; starts = padded 64 (startsOf (job .records)); lens = padded 64 (lensOf (job .records)) }
+
 -- as many records as are counted, and no more than a limit
 abbrev pub Few : ℕ → Got (Job Spot) → Type 0
 Few limit (refused reason place) = Unit {0}
@@ -153,3 +159,6 @@ ChoiceBounds f r = (r .articles ≤ 64) × (r .«wish_count» ≤ 64) × NamesWi
 
 abbrev pub FittingBounds : List ℕ → ReadFitting → Type 0
 FittingBounds f r = (r .steps ≤ 32) × (r .facts ≤ 32) × (r .horizon ≤ 16) × NamesWithin (length f) (r .starts) (r .lens) × Few 32 (read spots fittings f) × Bytes f
+
+abbrev pub NamesBounds : List ℕ → ReadNames → Type 0
+NamesBounds f r = (r .count ≤ 64) × NamesWithin (length f) (r .starts) (r .lens) × Few 64 (read spots either f)

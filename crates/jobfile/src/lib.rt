@@ -8,7 +8,7 @@ ghost use lib.ListN.{length, getD};
 ghost use Rattle.reading.specs.Got.{refused};
 ghost use Rattle.reading.specs.Items.{spots};
 ghost use Rattle.jobfile.specs.Read.{read, choices, fittings, either};
-ghost use Rattle.jobfile.specs.Meaning.{choiceRead, fittingRead, spotOf, spotIn, ChoiceBounds, FittingBounds};
+ghost use Rattle.jobfile.specs.Meaning.{choiceRead, fittingRead, namesRead, spotOf, spotIn, ChoiceBounds, FittingBounds, NamesBounds};
 
 pub mod records;
 
@@ -17,6 +17,26 @@ use reading::Spot;
 use reading::item;
 use reading::item::Cursor;
 use records::Kind;
+
+// The kinds: the first byte of a choice file, and of a fitting file.
+const CHOICE: u8 = 67;
+
+const FITTING: u8 = 70;
+
+// The most articles and wishes of a choice.
+const ARTICLES: u64 = 64;
+
+const WISHES: u64 = 64;
+
+// The most steps and facts of a fitting, and its longest horizon.
+const STEPS: u64 = 32;
+
+const FACTS: u64 = 32;
+
+const HORIZON: u64 = 16;
+
+// The elements of an array: as many as there may be articles, for a fitting, too.
+const ELEMENTS: usize = 64;
 
 // Whether a file is accepted.
 pub enum Verdict {
@@ -48,6 +68,15 @@ pub struct ReadFitting {
     pub needs: [u64; 64],
     pub gives: [u64; 64],
     pub takes: [u64; 64],
+    pub starts: [usize; 64],
+    pub lens: [usize; 64],
+}
+
+// The names of a file of either kind as read, likewise: how many articles or steps there are, and where
+// the name of each stands.
+pub struct ReadNames {
+    pub verdict: Verdict,
+    pub count: usize,
     pub starts: [usize; 64],
     pub lens: [usize; 64],
 }
@@ -92,10 +121,10 @@ pub fn read_choice(file: &[u8]) -> ReadChoice
     ensures { λ r. ⌜ r ≡ choiceRead (read spots choices (now (file .entry))) ⌝ }
     ensures { λ r. ⌜ ChoiceBounds (now (file .entry)) r ⌝ }
 {
-    let a = item::kind(file, 67);
-    let articles = item::count(file, a, 64);
+    let a = item::kind(file, CHOICE);
+    let articles = item::count(file, a, ARTICLES);
     let b = articles.next;
-    let counted = item::count(file, b, 64);
+    let counted = item::count(file, b, WISHES);
     let c = counted.next;
     let n = articles.value as usize;
     let w = counted.value as usize;
@@ -130,12 +159,12 @@ pub fn read_fitting(file: &[u8]) -> ReadFitting
     ensures { λ r. ⌜ r ≡ fittingRead (read spots fittings (now (file .entry))) ⌝ }
     ensures { λ r. ⌜ FittingBounds (now (file .entry)) r ⌝ }
 {
-    let a = item::kind(file, 70);
-    let steps = item::count(file, a, 32);
+    let a = item::kind(file, FITTING);
+    let steps = item::count(file, a, STEPS);
     let b = steps.next;
-    let counted = item::count(file, b, 32);
+    let counted = item::count(file, b, FACTS);
     let c = counted.next;
-    let rounds = item::count(file, c, 16);
+    let rounds = item::count(file, c, HORIZON);
     let d = rounds.next;
     let n = steps.value as usize;
     let facts = counted.value as usize;
@@ -178,14 +207,43 @@ pub fn is_fitting(file: &[u8]) -> bool
     if file.len() == 0 {
         return false;
     }
-    file[0] == 70
+    file[0] == FITTING
+}
+
+// Reads the names of a file of either kind.
+pub fn read_names(file: &[u8]) -> ReadNames
+    ensures { λ r. ⌜ r ≡ namesRead (read spots either (now (file .entry))) ⌝ }
+    ensures { λ r. ⌜ NamesBounds (now (file .entry)) r ⌝ }
+{
+    if is_fitting(file) {
+        let read = read_fitting(file);
+        let verdict = read.verdict;
+        let starts = read.starts;
+        let lens = read.lens;
+        return ReadNames {
+            verdict,
+            count: read.steps,
+            starts,
+            lens,
+        };
+    }
+    let read = read_choice(file);
+    let verdict = read.verdict;
+    let starts = read.starts;
+    let lens = read.lens;
+    ReadNames {
+        verdict,
+        count: read.articles,
+        starts,
+        lens,
+    }
 }
 
 // An element of the columns of names: none behind their end.
 fn spot_at(starts: [usize; 64], lens: [usize; 64], number: usize) -> Spot
     ensures { λ r. ⌜ r ≡ spotOf starts lens number ⌝ }
 {
-    if 64 <= number {
+    if ELEMENTS <= number {
         return Spot { start: 0, len: 0 };
     }
     Spot {
@@ -199,13 +257,7 @@ pub fn spot(file: &[u8], number: usize) -> Spot
     ensures { λ r. ⌜ r ≡ spotIn (read spots either (now (file .entry))) number ⌝ }
     ensures { λ r. ⌜ r .start + r .len ≤ length (now (file .entry)) ⌝ }
 {
-    if is_fitting(file) {
-        let read = read_fitting(file);
-        let starts = read.starts;
-        let lens = read.lens;
-        return spot_at(starts, lens, number);
-    }
-    let read = read_choice(file);
+    let read = read_names(file);
     let starts = read.starts;
     let lens = read.lens;
     spot_at(starts, lens, number)

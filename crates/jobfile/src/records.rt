@@ -14,6 +14,9 @@ use reading::item;
 use reading::item::Cursor;
 use sets::word;
 
+// The most bytes of a name.
+const NAME: u64 = 32;
+
 // Which kind of file records are of.
 pub enum Kind {
     Choice,
@@ -41,7 +44,7 @@ fn article(file: &[u8], from: Cursor, count: usize, own: usize) -> Record
     let b = wishes.next;
     let clashes = item::field(file, b, word::bit_at(m, 1) == 1, 8, own);
     let c = clashes.next;
-    let named = item::name(file, c, word::bit_at(m, 2) == 1, 32);
+    let named = item::name(file, c, word::bit_at(m, 2) == 1, NAME);
     let spot = named.spot;
     let next = named.next;
     Record {
@@ -67,7 +70,7 @@ fn step(file: &[u8], from: Cursor, count: usize, own: usize) -> Record
     let c = gives.next;
     let takes = item::field(file, c, word::bit_at(m, 2) == 1, 4, count);
     let d = takes.next;
-    let named = item::name(file, d, word::bit_at(m, 3) == 1, 32);
+    let named = item::name(file, d, word::bit_at(m, 3) == 1, NAME);
     let spot = named.spot;
     let next = named.next;
     Record {

@@ -5,12 +5,15 @@ ghost use lib.Dec.{eqb};
 ghost use Rattle.names.specs.Names.{sameList};
 use jobfile::ReadChoice;
 
+// The elements of an array.
+const ELEMENTS: usize = 64;
+
 // Whether two arrays hold the same words.
 fn same_words(a: [u64; 64], b: [u64; 64]) -> bool
     ensures { λ r. ⌜ r ≡ sameList a b ⌝ }
 {
     let mut i: usize = 0;
-    while i < 64 {
+    while i < ELEMENTS {
         if a[i] != b[i] {
             return false;
         }

@@ -2,16 +2,16 @@
 use mathlib.Core.Path.{_≡_, sym, ap, subst, _∙_}
 use mathlib.Core.List.{List, _++_, append-assoc}
 use Prim.Native.Nat.{ℕ, _+_, _*_, _≤_, _<_}
-use native.Mathlib.Numerals.{add-one}
 use native.Mathlib.Omega.{arith}
 use lib.ListN.{length, getD, take, drop, set, replicate, length-set, length-replicate}
-use lib.Seq.{length-take-le, take-all, take-add, take-take, take-append-le, drop-at, getD-set-same, getD-set-other, paste, paste-suc, length-paste, take-paste}
+use lib.Seq.{length-take-le, take-all, take-add, take-take, take-append-le, drop-at, getD-set-same, getD-set-other, paste, length-paste, take-paste}
 use Rattle.sets.proofs.Ranges.{one-more}
 use Rattle.planning.specs.Rounds.{Fitting}
 use Rattle.planning.specs.Layers.{Layer}
 use Rattle.layers.specs.Meaning.{layer}
 use Rattle.supports.specs.Supports.{rowOf}
-use Rattle.planner.specs.Tabulated.{roundAfter, Laid, Put}
+use Rattle.planner.specs.Tabulated.{roundAfter, Laid}
+use Rattle.planner.proofs.PlannerLaws.{round-length}
 
 -- ---- a row
 
@@ -27,11 +27,6 @@ paste-front k at n d s l h =
     ∙ take-take k at d l
 
 module _ (j : ℕ) (row old : List ℕ) (wide : length row ≡ 64) (room : 64 * j + 64 ≤ length old) where
-  -- one word more
-  pub put-turn : (i : ℕ) (words : List ℕ) → i < 64 → words ≡ paste old (64 * j) row i → set words (64 * j + i) (getD row i 0) ≡ paste old (64 * j) row (i + 1)
-  put-turn i words l e =
-      rw add-one (ap (λ (ws : List ℕ). set ws (64 * j + i) (getD row i 0)) e ∙ paste-suc old (64 * j) row i 0 (omega arith) (omega arith))
-
   same-many : length (paste old (64 * j) row 64) ≡ length old
   same-many = length-paste old (64 * j) row 64 room (omega arith)
 
@@ -52,11 +47,6 @@ module _ (j : ℕ) (row old : List ℕ) (wide : length row ≡ 64) (room : 64 * 
       ∙ ap (drop (64 * i)) (paste-front (64 * i + 64) (64 * j) 64 old row (omega arith) (omega arith))
       ∙ sym (cut (64 * i) 64 old (omega arith))
 
-  -- after the last word
-  pub put-end : (i : ℕ) (words : List ℕ) → i ≡ 64 → words ≡ paste old (64 * j) row i → Put j row old words
-  put-end i words z e =
-      subst (λ (ws : List ℕ). Put j row old ws) (sym (e ∙ ap (paste old (64 * j) row) z)) (record { many = same-many; here = here; before = before })
-
 -- ---- all layers
 
 -- before the first turn no layer stands in the tables
@@ -69,20 +59,26 @@ laid-none F = record {
 }
 
 -- a turn adds its own layer, and those below it stand where they stood
-pub laid-turn : (F : Fitting) (j m : ℕ) (row members words new : List ℕ) → j < 16 → Laid F j members words → layer m row ≡ roundAfter F j → Put j row words new
+pub laid-turn : (F : Fitting) (j m : ℕ) (row members words new : List ℕ) → j < 16 → Laid F j members words → layer m row ≡ roundAfter F j → new ≡ paste words (64 * j) row 64
     → Laid F (j + 1) (set members j m) new
 laid-turn F j m row members words new room L e p = record {
   few = length-set members j m ∙ L .few;
-  many = p .many ∙ L .many;
+  many = ap length p ∙ same-many j row words wide fits ∙ L .many;
   vertices =
       one-more (λ i. getD (set members j m) i 0 ≡ roundAfter F i .members) j
       (λ i l. getD-set-other members j i m 0 (λ z. let f : ⊥ = omega arith in f) ∙ L .vertices i l)
       (getD-set-same members j m 0 (omega (arith, L .few)) ∙ ap (λ (r : Layer). r .members) e);
-  rows = one-more (λ i. rowOf new i ≡ roundAfter F i .words) j (λ i l. p .before i l ∙ L .rows i l) (p .here ∙ ap (λ (r : Layer). r .words) e);
+  rows =
+      one-more (λ i. rowOf new i ≡ roundAfter F i .words) j (λ i l. ap (λ (ws : List ℕ). rowOf ws i) p ∙ before j row words wide fits i l ∙ L .rows i l)
+      (ap (λ (ws : List ℕ). rowOf ws j) p ∙ here j row words wide fits ∙ ap (λ (r : Layer). r .words) e);
 }
+  where
+    wide : length row ≡ 64
+    wide = ap (λ (r : Layer). length (r .words)) e ∙ round-length F j
+
+    fits : 64 * j + 64 ≤ length words
+    fits = omega (arith, L .many)
 
 -- after the last turn all layers stand there
 pub laid-end : (F : Fitting) (j h : ℕ) (members words : List ℕ) → j ≡ h → Laid F j members words → Laid F h members words
 laid-end F j h members words e L = subst (λ (n : ℕ). Laid F n members words) e L
-
--- ---- the words of a plan

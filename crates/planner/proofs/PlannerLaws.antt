@@ -97,7 +97,7 @@ module _ (F : Fitting) (sized : Sized 32 F) where
       go (yes l) = rw (lt-ltb x 32 l) (pow-lt l)
       go (no l) = rw (le-ltb x 32 (omega arith)) (step (x - 32) (decLt (x - 32) (F .count)))
 
-round-length : (F : Fitting) (j : ℕ) → length (roundAfter F j .words) ≡ 64
+pub round-length : (F : Fitting) (j : ℕ) → length (roundAfter F j .words) ≡ 64
 unfolding roundOver
 round-length F j = words-length 64 (standing 32 (vertices 32 F) (32 + F .count) (factLayer 32 F j)) (rivals 32 (vertices 32 F) (factLayer 32 F j))
 

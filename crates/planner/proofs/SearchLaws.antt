@@ -1,22 +1,21 @@
--- The laws of the search over the count of rounds: words are copied one by one, and counts are refused one by one. Assumes nothing.
-use mathlib.Core.Path.{_≡_, _∙_}
+-- The laws of the search over the count of rounds: the words of a plan are copied, and counts are refused one by one. Assumes nothing.
+use mathlib.Core.Path.{_≡_, ap, _∙_}
 use mathlib.Core.List.{List}
-use Prim.Native.Nat.{ℕ, zero, suc, _+_, _<_}
+use Prim.Native.Nat.{ℕ, zero, suc, _+_, _≤_, _<_}
+use native.Mathlib.Nat.{zero-add}
 use native.Mathlib.Omega.{arith}
-use lib.ListN.{length, getD, drop, set}
-use lib.Seq.{getD-set-same, getD-set-other, drop-set-lt}
+use lib.ListN.{length, getD, take, drop, List·getD-append}
+use lib.Seq.{length-take-le, getD-take, drop-at, paste}
 use Rattle.sets.proofs.Ranges.{one-more}
 use Rattle.extraction.specs.Extraction.{allFacts, Graph, needsOf, Back, Held, Fine, Refutes}
 use Rattle.extraction.proofs.ExtractLaws.{back-part, refuses-whole}
+use Rattle.planner.specs.Tabulated.{Copied}
 
--- one word more is copied: the words before it and those from k on are other words
-pub copied-more : (k i x : ℕ) (words old out : List ℕ) → i < k → i < length out → x ≡ getD words i 0
-    → ((m : ℕ) → m < i → getD out m 0 ≡ getD words m 0) × (drop k out ≡ drop k old)
-    → ((m : ℕ) → m < i + 1 → getD (set out i x) m 0 ≡ getD words m 0) × (drop k (set out i x) ≡ drop k old)
-copied-more k i x words old out l r e (front, rest) = (
-  one-more (λ m. getD (set out i x) m 0 ≡ getD words m 0) i (λ m b. getD-set-other out i m x 0 (λ (z : m ≡ i). let f : ⊥ = omega arith in f) ∙ front m b)
-      (getD-set-same out i x 0 r ∙ e),
-  drop-set-lt k out i x l ∙ rest,
+-- a copy to the front: the words there are copied, and the later ones keep
+pub copied-front : (k : ℕ) (words old new : List ℕ) → k ≤ length words → new ≡ paste old 0 words k → Copied k words old new
+copied-front k words old new room e = (
+  λ i l. ap (λ (t : List ℕ). getD t i 0) e ∙ List·getD-append (take k words) (drop (0 + k) old) 0 i (omega (arith, length-take-le k words room)) ∙ getD-take k words i 0 l,
+  ap (drop k) e ∙ drop-at (take k words) (drop (0 + k) old) k (length-take-le k words room) ∙ ap (λ (n : ℕ). drop n old) (zero-add k),
 )
 
 module _ (T : Graph) where

@@ -27,9 +27,11 @@ fn copy(out: &mut [u32], words: &[u32; 16], k: usize)
     requires { ⌜ (k ≤ 16) × (k ≤ length (now out)) ⌝ }
     ensures { λ r. ⌜ Copied k (now (words .entry)) (now (out .entry)) (now (out .exit)) ⌝ }
 {
+    // As a slice: its length is then known.
+    let from: &[u32] = words;
     let mut i: usize = 0;
     while i < k {
-        out[i] = words[i];
+        out[i] = from[i];
         i += 1;
     }
 }

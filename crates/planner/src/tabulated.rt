@@ -1,12 +1,15 @@
 // The round layers of a fitting up to its horizon, in flat tables.
+ghost use mathlib.Core.Path.{_≡_};
 ghost use Prim.Native.Nat.{_+_, _*_, _≤_, _<_};
 ghost use lib.ListN.{length};
+ghost use lib.Seq.{paste};
 ghost use Rattle.planning.specs.Back.{Sized};
 ghost use Rattle.planning.specs.Meaning.{fittingIn};
-ghost use Rattle.planner.specs.Tabulated.{Laid, Put};
+ghost use Rattle.planner.specs.Tabulated.{Laid};
 use crate::ROUNDS;
 use jobfile::ReadFitting;
 use layers::Layer;
+use sets::copy;
 
 // The mutex words of all round layers: 64 for each, one for each vertex.
 const WORDS: usize = 64 * ROUNDS;
@@ -20,15 +23,9 @@ pub struct RoundLayers {
 // Puts the words of round layer j + 1 in their place.
 fn put(words: &mut [u64], j: usize, row: &[u64; 64])
     requires { ⌜ (j < 16) × (64 * j + 64 ≤ length (now words)) ⌝ }
-    ensures { λ r. ⌜ Put j (now (row .entry)) (now (words .entry)) (now (words .exit)) ⌝ }
+    ensures { λ r. ⌜ now (words .exit) ≡ paste (now (words .entry)) (64 * j) (now (row .entry)) 64 ⌝ }
 {
-    // As a slice: its length is then known.
-    let from: &[u64] = row;
-    let mut i: usize = 0;
-    while i < 64 {
-        words[64 * j + i] = from[i];
-        i += 1;
-    }
+    copy::words(words, 64 * j, row, 64);
 }
 
 // The round layers 1 to the horizon.

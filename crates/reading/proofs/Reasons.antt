@@ -5,7 +5,7 @@ use Rattle.reading.specs.declared.Reason.{Reason}
 use Rattle.reading.specs.declared.Reason.the-variants.{WrongKind, EndsEarly, OverLimit, ForbiddenBit, EmptyField, AbsentMember, LongName, TrailingBytes, OutOfRange, ShortBuffer, FalsePartition, LiveOutsideFile, BadGoal, NoSelection, NoPlan, NameNotFound}
 use Rattle.reading.specs.Reasons.{numberOf}
 use lib.ListN.{getD}
-use mathlib.Core.List.{List, [], _∷_}
+use mathlib.Core.List.{[], _∷_}
 
 -- the reasons by their numbers
 abbrev reasonAt : ℕ → Reason

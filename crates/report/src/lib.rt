@@ -10,6 +10,9 @@ use reading::Refusal;
 use sets::ArticleSet;
 use text::Page;
 
+// The most rounds of a plan.
+const HORIZON: usize = 16;
+
 // What comes of a file: a selection with the set aside, how many rounds a plan has, or a refusal.
 pub enum OutcomeAnswer {
     Chosen {
@@ -32,7 +35,7 @@ fn chosen(file: &[u8]) -> OutcomeAnswer
 }
 
 // What comes of a file, and the rounds of a plan in the words, whatever stood there.
-pub fn outcome(file: &[u8], words: &mut [u32; 16]) -> OutcomeAnswer
+pub fn outcome(file: &[u8], words: &mut [u32; HORIZON]) -> OutcomeAnswer
     ensures { λ r. ⌜ outcomeTold r ≡ outcomeOf (now (file .entry)) (now (words .entry)) ⌝ }
     ensures { λ r. ⌜ RoundWords (now (file .entry)) (now (words .entry)) (now (words .exit)) ⌝ }
 {
@@ -47,7 +50,7 @@ pub fn outcome(file: &[u8], words: &mut [u32; 16]) -> OutcomeAnswer
 }
 
 // The text of an outcome.
-fn text(outcome: OutcomeAnswer, words: &[u32; 16]) -> Page
+fn text(outcome: OutcomeAnswer, words: &[u32; HORIZON]) -> Page
     requires { ⌜ RoundsFit (outcomeTold outcome) 16 ⌝ }
     ensures { λ r. ⌜ shown r ≡ textOf (outcomeTold outcome) (now (words .entry)) ⌝ }
 {
@@ -65,7 +68,7 @@ fn text(outcome: OutcomeAnswer, words: &[u32; 16]) -> Page
 pub fn report(file: &[u8]) -> Page
     ensures { λ r. ⌜ Prints (now (file .entry)) (shown r) ⌝ }
 {
-    let mut words = [0u32; 16];
+    let mut words = [0u32; HORIZON];
     let done = outcome(file, &mut words);
     text(done, &words)
 }

@@ -1,14 +1,16 @@
--- A loop that fills an array. Assumes nothing.
-use mathlib.Core.Path.{_≡_, sym, _∙_}
+-- A loop that fills an array that it made, and a loop that copies words into a buffer that it was lent. Assumes nothing.
+use mathlib.Core.Path.{_≡_, refl, sym, ap, ap₂, _∙_}
 use mathlib.Core.List.{List}
-use Prim.Native.Nat.{ℕ, _+_, _<_}
+use Prim.Native.Nat.{ℕ, _+_, _≤_, _<_}
+use native.Mathlib.Numerals.{add-one}
 use native.Mathlib.Omega.{arith}
 use lib.ListN.{length, getD, set, replicate, length-set, length-replicate}
-use lib.Seq.{getD-set-same, getD-set-other, ext-getD}
+use lib.Seq.{getD-set-same, getD-set-other, ext-getD, paste, paste-zero, paste-suc}
 use Rattle.sets.specs.Ranges.{listTo}
 use Rattle.sets.proofs.Ranges.{one-more, list-length, list-at}
 
--- the rows below i are made
+-- ---- filling: the rows below i are made
+
 abbrev pub Filled : ℕ → (ℕ → ℕ) → List ℕ → ℕ → Type 0
 Filled w f rows i = (length rows ≡ w) × ((k : ℕ) → k < i → getD rows k 0 ≡ f k)
 
@@ -27,3 +29,21 @@ pub filled-end : (w : ℕ) (f : ℕ → ℕ) (rows : List ℕ) (i : ℕ) → Fil
 filled-end w f rows i (size, held) e =
     ext-getD 0 rows (listTo w f) (size ∙ sym (list-length w f))
     (λ k l. let h : k < w = omega (arith, size) in held k (omega arith) ∙ sym (list-at w f 0 k h))
+
+-- ---- copying: the first i words stand at the places from `at` on, and all others are as they were
+
+module _ (old : List ℕ) (at : ℕ) (from : List ℕ) where
+  abbrev pub Pasted : List ℕ → ℕ → Type 0
+  Pasted to i = (length to ≡ length old) × (to ≡ paste old at from i)
+
+  pub pasted-start : Pasted old 0
+  pasted-start = (refl, paste-zero old at from)
+
+  pub pasted-turn : (to : List ℕ) (i : ℕ) {p x : ℕ} → Pasted to i → at + i < length old → i < length from → p ≡ at + i → x ≡ getD from i 0 → Pasted (set to p x) (i + 1)
+  pasted-turn to i {p} {x} (size, e) room l place same = (
+    length-set to p x ∙ size,
+    rw add-one (ap (λ (t : List ℕ). set t p x) e ∙ ap₂ (λ (q y : ℕ). set (paste old at from i) q y) place same ∙ paste-suc old at from i 0 room l),
+  )
+
+  pub pasted-end : (to : List ℕ) (i n : ℕ) → Pasted to i → i ≤ n → n ≤ i → to ≡ paste old at from n
+  pasted-end to i n (size, e) l m = let q : i ≡ n = omega arith in e ∙ ap (paste old at from) q

@@ -100,6 +100,10 @@ pub false-num : (b : Bool) → num b ≡ 0 → b ≡ false
 false-num true e = absurd (omega arith)
 false-num false e = refl
 
+pub num-same : (a b : Bool) → num a ≡ num b → a ≡ b
+num-same true b e = sym (true-num b (sym e))
+num-same false b e = sym (false-num b (sym e))
+
 pub num-both : (a b : Bool) → num (a && b) ≡ min (num a) (num b)
 num-both true b = omega (arith, num-le b)
 num-both false b = omega arith

@@ -9,6 +9,7 @@ ghost use lib.Dec.{ltb};
 ghost use Rattle.sets.specs.Sets.{member, count};
 ghost use Rattle.sets.specs.Articles.{taking, givingUp};
 
+pub mod copy;
 pub mod table;
 pub mod word;
 

@@ -2,20 +2,19 @@
 use mathlib.Core.Path.{_≡_, refl, sym, ap, subst, _∙_}
 use mathlib.Core.Logic.{⊎-elim}
 use mathlib.Core.Bool.{Bool, true, false, true≢false}
-use mathlib.Core.List.{List}
+use mathlib.Core.List.{List, append-nil}
 use mathlib.Core.Option.{Option, none, some}
-use Prim.Native.Nat.{ℕ, _+_, _*_, _^_, _≤_, _<_, zero-le}
+use Prim.Native.Nat.{ℕ, _+_, _-_, _*_, _^_, _≤_, _<_, zero-le}
 use native.Mathlib.Omega.{arith}
 use lib.Bits.{bitOr}
-use lib.ListN.{length, getD, drop, length-drop}
-use lib.Seq.{length-take-le, getD-take, getD-drop, ext-getD}
+use lib.ListN.{length, getD, take, drop, replicate}
+use lib.Seq.{take-take, paste}
 use Rattle.sets.specs.Ranges.{given}
 use Rattle.sets.specs.Sets.{bit, _∈_, _⊆_, part, without, lowest}
 use Rattle.sets.specs.First.{Smallest}
 use Rattle.sets.proofs.Bits.{bit-or, bit-without, bit-empty, ext, ext-at, part-refl, part-in, in-part, part-yes, yes-part, in-without, in-more, less-in, less-same, less-other, more-same, more-other, or-left, member-differs}
 use Rattle.sets.proofs.Lowest.{lowest-in}
 use Rattle.network.specs.Network.{Network, listed, Cover}
-use Rattle.sets.proofs.Filled.{Filled}
 use Rattle.choice.specs.declared.Found.{Found}
 use Rattle.choice.specs.declared.Found.the-variants as Found
 use Rattle.choice.specs.Choice.{smallest}
@@ -96,19 +95,12 @@ module _ (needs : List ℕ) (may : ℕ) where
 
 -- ---- the mutex words of a round layer
 
-row-at : (words : List ℕ) (j k : ℕ) → k < 64 → getD (rowOf words j) k 0 ≡ getD words (64 * j + k) 0
+-- a copy of them, over 64 words
+pub row-copied : (words all : List ℕ) (j : ℕ) → 64 * j + 64 ≤ length words → all ≡ paste (replicate {A = ℕ} 64 0) 0 (take (length words - 64 * j) (drop (64 * j) words)) 64
+    → all ≡ rowOf words j
 unfolding rowOf
-row-at words j k l = getD-take 64 (drop (64 * j) words) k 0 l ∙ getD-drop (64 * j) words k 0
-
-row-length : (words : List ℕ) (j : ℕ) → 64 * j + 64 ≤ length words → length (rowOf words j) ≡ 64
-unfolding rowOf
-row-length words j h = length-take-le 64 (drop (64 * j) words) (omega (arith, length-drop (64 * j) words))
-
--- a copy of them, made word by word
-pub row-end : (words all : List ℕ) (j i : ℕ) → 64 * j + 64 ≤ length words → Filled 64 (λ k. getD words (64 * j + k) 0) all i → i ≡ 64 → all ≡ rowOf words j
-row-end words all j i h (size, held) e =
-    ext-getD 0 all (rowOf words j) (size ∙ sym (row-length words j h))
-    (λ k l. let b : k < 64 = omega (arith, size) in held k (omega arith) ∙ sym (row-at words j k b))
+row-copied words all j h e =
+    e ∙ append-nil (take 64 (take (length words - 64 * j) (drop (64 * j) words))) ∙ take-take 64 (length words - 64 * j) (drop (64 * j) words) (omega arith)
 
 -- ---- the question
 

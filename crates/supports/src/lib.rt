@@ -11,6 +11,7 @@ ghost use Rattle.choice.specs.Choice.{smallest};
 ghost use Rattle.choice.specs.Meaning.{foundBy};
 ghost use Rattle.supports.specs.Supports.{rowOf, Opens, Uncovered};
 use choice::Found;
+use sets::copy;
 use sets::word;
 
 // Whether the needs of a vertex lie in the facts.
@@ -41,12 +42,9 @@ fn row(words: &[u64], j: usize) -> [u64; 64]
     requires { ⌜ (j < 16) × (64 * j + 64 ≤ length (now words)) ⌝ }
     ensures { λ r. ⌜ r ≡ rowOf (now (words .entry)) j ⌝ }
 {
+    let at = 64 * j;
     let mut all: [u64; 64] = [0; 64];
-    let mut i: usize = 0;
-    while i < 64 {
-        all[i] = words[64 * j + i];
-        i += 1;
-    }
+    copy::words(&mut all, 0, &words[at..], 64);
     all
 }
 

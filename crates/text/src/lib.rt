@@ -10,9 +10,19 @@ ghost use Rattle.text.specs.Text.{decimal, members, refusedText, chosenT
 ghost use Rattle.text.specs.Meaning.{shown, extended};
 use sets::word;
 
+// The bytes that a page has room for.
+const ROOM: usize = 2048;
+
+// The most articles of a selection, the most steps of a round, and the most rounds.
+const ARTICLES: usize = 64;
+
+const STEPS: usize = 32;
+
+const HORIZON: usize = 16;
+
 // The bytes of a text are the first `len`.
 pub struct Page {
-    pub bytes: [u8; 2048],
+    pub bytes: [u8; ROOM],
     pub len: usize,
 }
 
@@ -20,7 +30,7 @@ fn empty() -> Page
     ensures { λ r. ⌜ shown r ≡ [] ⌝ }
 {
     Page {
-        bytes: [0; 2048],
+        bytes: [0; ROOM],
         len: 0,
     }
 }
@@ -30,10 +40,10 @@ pub fn used(page: Page) -> usize
     ensures { λ r. ⌜ r ≤ 2048 ⌝ }
     ensures { λ r. ⌜ take r (page .bytes) ≡ shown page ⌝ }
 {
-    if page.len < 2048 {
+    if page.len < ROOM {
         return page.len;
     }
-    2048
+    ROOM
 }
 
 // One byte more.
@@ -41,7 +51,7 @@ fn put(page: Page, byte: u8) -> Page
     ensures { λ r. ⌜ shown r ≡ extended page (byte ∷ []) ⌝ }
 {
     let at = page.len;
-    if at < 2048 {
+    if at < ROOM {
         let mut bytes = page.bytes;
         bytes[at] = byte;
         return Page {
@@ -120,9 +130,9 @@ pub fn chosen(selection: u64, aside: u64) -> Page
     ensures { λ r. ⌜ shown r ≡ chosenText 64 selection aside ⌝ }
 {
     let a = say(empty(), b"chosen");
-    let b = set(a, selection, 64);
+    let b = set(a, selection, ARTICLES);
     let c = say(b, b"\naside");
-    let d = set(c, aside, 64);
+    let d = set(c, aside, ARTICLES);
     put(d, 10)
 }
 
@@ -133,11 +143,11 @@ fn round(page: Page, i: usize, steps: u32) -> Page
 {
     let a = number(page, i as u64 + 1);
     let b = put(a, 58);
-    let c = set(b, steps as u64, 32);
+    let c = set(b, steps as u64, STEPS);
     put(c, 10)
 }
 
-pub fn rounds(k: usize, words: &[u32; 16]) -> Page
+pub fn rounds(k: usize, words: &[u32; HORIZON]) -> Page
     requires { ⌜ k ≤ 16 ⌝ }
     ensures { λ r. ⌜ shown r ≡ roundsText 32 k (now (words .entry)) ⌝ }
 {

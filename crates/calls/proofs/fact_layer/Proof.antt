@@ -4,11 +4,12 @@ use mathlib.Core.Path.{ap}
 use native.Mathlib.Omega.{arith}
 use denote.Ref.{now}
 use lib.ListN.{length}
+use Rattle.planning.specs.Layers.{factLayer}
 use Rattle.planning.specs.Meaning.{fittingIn}
 use Rattle.planning.proofs.ReadLaws.{sized-read}
 use Rattle.arguments.proofs.TestLaws.{layer-passed}
 use Rattle.calls.proofs.CallLaws.{fitting-job}
-use Rattle.calls.proofs.FittingLaws.{facts-fit, words-fit, facts-down, facts-stopped, facts-made}
+use Rattle.calls.proofs.FittingLaws.{facts-fit, words-fit, layer-down, layer-stopped, facts-made}
 use Rattle.calls.proofs.fact_layer.Statement.{statement}
 use Rattle.calls.proofs.fact_layer.Tie as tie
 
@@ -21,7 +22,7 @@ enum-known-verdict c = search needs
 returns : tie.Need-returns
 returns c =
     let a = c .before .before .before .before .before .before .args in
-    facts-down (now (a .file)) (now (a .words)) (a .k) (ap (λ x. x .verdict) (c .before .before .before .read-fitting .ensures .0)) (c .before .verdict .given .1)
+    layer-down (λ F. factLayer 32 F (a .k)) 0 32 (now (a .file)) (now (a .words)) (a .k) (ap (λ x. x .verdict) (c .before .before .before .read-fitting .ensures .0)) (c .before .verdict .given .1)
 
 enum-told : tie.Need-enum-told
 enum-told c = search needs
@@ -37,7 +38,7 @@ returns-2 c =
     let a = c .before .before .before .before .before .before .before .before .before .args in
     let r = c .before .before .before .before .before .before .read-fitting in
     let R = fitting-job (now (a .file)) (r .result) (r .ensures .0) (r .ensures .1) (c .before .before .before .before .enum-told .given .1) in
-    facts-stopped (now (a .file)) (now (a .words)) (a .k) (r .result) R (c .before .before .before .layer .ensures) (c .before .tested .given .1)
+    layer-stopped (λ F. factLayer 32 F (a .k)) 0 32 (now (a .file)) (now (a .words)) (a .k) (r .result) R (c .before .before .before .layer .ensures) (c .before .tested .given .1)
 
 enum-told-2 : tie.Need-enum-told-2
 enum-told-2 c = search needs

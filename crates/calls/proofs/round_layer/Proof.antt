@@ -4,10 +4,11 @@ use mathlib.Core.Path.{ap}
 use native.Mathlib.Omega.{arith}
 use denote.Ref.{now}
 use lib.ListN.{length}
+use Rattle.planning.specs.Layers.{roundLayer}
 use Rattle.planning.proofs.ReadLaws.{sized-read}
 use Rattle.arguments.proofs.TestLaws.{layer-passed}
 use Rattle.calls.proofs.CallLaws.{fitting-job}
-use Rattle.calls.proofs.FittingLaws.{vertices-down, vertices-stopped, vertices-made}
+use Rattle.calls.proofs.FittingLaws.{layer-down, layer-stopped, vertices-made}
 use Rattle.calls.proofs.round_layer.Statement.{statement}
 use Rattle.calls.proofs.round_layer.Tie as tie
 
@@ -20,7 +21,7 @@ enum-known-verdict c = search needs
 returns : tie.Need-returns
 returns c =
     let a = c .before .before .before .before .before .before .args in
-    vertices-down (now (a .file)) (now (a .words)) (a .k) (ap (λ x. x .verdict) (c .before .before .before .read-fitting .ensures .0)) (c .before .verdict .given .1)
+    layer-down (λ F. roundLayer 32 F (a .k)) 1 64 (now (a .file)) (now (a .words)) (a .k) (ap (λ x. x .verdict) (c .before .before .before .read-fitting .ensures .0)) (c .before .verdict .given .1)
 
 enum-told : tie.Need-enum-told
 enum-told c = search needs
@@ -36,7 +37,7 @@ returns-2 c =
     let a = c .before .before .before .before .before .before .before .before .before .args in
     let r = c .before .before .before .before .before .before .read-fitting in
     let R = fitting-job (now (a .file)) (r .result) (r .ensures .0) (r .ensures .1) (c .before .before .before .before .enum-told .given .1) in
-    vertices-stopped (now (a .file)) (now (a .words)) (a .k) (r .result) R (c .before .before .before .layer .ensures) (c .before .tested .given .1)
+    layer-stopped (λ F. roundLayer 32 F (a .k)) 1 64 (now (a .file)) (now (a .words)) (a .k) (r .result) R (c .before .before .before .layer .ensures) (c .before .tested .given .1)
 
 enum-told-2 : tie.Need-enum-told-2
 enum-told-2 c = search needs

@@ -1,22 +1,20 @@
 -- `arguments::written::facts` meets its contract. The invariant: the words in front of word i are written, and the others keep.
 use borrow.Author.Needs.{needs}
 use mathlib.Core.Path.{_≡_, refl}
-use mathlib.Core.List.{_++_}
-use Prim.Native.Nat.{_-_, _≤_, _<_}
+use Prim.Native.Nat.{_+_, _-_, _≤_, _<_}
 use native.Mathlib.Omega.{arith}
-use lib.ListN.{length, take, drop}
-use Rattle.arguments.proofs.WrittenLaws.{written-more, written-all}
+use Rattle.sets.proofs.Filled.{Pasted, pasted-start, pasted-turn, pasted-end}
 use Rattle.arguments.proofs.written.facts.Statement.{statement}
 use Rattle.arguments.proofs.written.facts.Tie as tie
 
 abbrev Inv-loop : tie.InvT-loop
-Inv-loop words₀ mutex made i₀ words i = (i ≤ 32) × (length words ≡ length words₀) × (words ≡ take i made ++ drop i words₀)
+Inv-loop words₀ mutex made i₀ words i = (i ≤ 32) × Pasted words₀ 0 made words i
 
 abbrev μ-loop : tie.MeasureT-loop
 μ-loop words₀ mutex made i₀ words i = 32 - i
 
 loop-holds : tie.Need-loop-holds Inv-loop μ-loop
-loop-holds c = search needs
+loop-holds c = (omega arith, pasted-start (c .before .args .words .now) 0 (c .before .args .mutex .now))
 
 mul-words : tie.Need-mul-words Inv-loop μ-loop
 mul-words c = search needs
@@ -44,7 +42,8 @@ loop-again c =
     let w = c .before .before .before .before in
     let l = c .before .before .loop in
     let i : l .i < 32 = c .before .loop-test .taken in
-    (omega arith, search needs, written-more (l .i) (w .args .mutex .now) (w .args .words .now) (l .words) (omega (arith, c .before .before .before .made .given .0)) (omega (arith, w .pre .0)) refl (l .inv .2))
+    let place : l .i ≡ 0 + l .i = omega arith in
+    (omega arith, pasted-turn (w .args .words .now) 0 (w .args .mutex .now) (l .words) (l .i) (l .inv .1) (omega (arith, w .pre .0)) (omega (arith, c .before .before .before .made .given .0)) place refl)
 
 same-length : tie.Need-same-length Inv-loop μ-loop
 same-length c = search needs
@@ -53,7 +52,7 @@ returns : tie.Need-returns Inv-loop μ-loop
 returns c =
     let w = c .before .before .before in
     let l = c .before .loop in
-    written-all 32 (l .i) (w .args .mutex .now) (w .args .words .now) _ (omega (arith, l .inv .0)) (omega (arith, c .loop-test .left)) (l .inv .2)
+    pasted-end (w .args .words .now) 0 (w .args .mutex .now) (l .words) (l .i) 32 (l .inv .1) (l .inv .0) (c .loop-test .left)
 
 pub facts-spec : {M : Type 1} → statement M
 facts-spec =

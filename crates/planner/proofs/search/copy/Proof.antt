@@ -1,29 +1,27 @@
--- `planner::search::copy` meets its contract. The invariant: the words in front of word i are copied, and those from k on are as they were.
--- The measure is how many words are left.
+-- `planner::search::copy` meets its contract. The invariant: the words in front of word i are copied. The measure is how many words are left.
 use borrow.Author.Needs.{needs}
 use mathlib.Core.Path.{_≡_, refl}
-use Prim.Native.Nat.{ℕ, _-_, _≤_, _<_}
+use Prim.Native.Nat.{_+_, _-_, _≤_, _<_}
 use native.Mathlib.Omega.{arith}
-use lib.ListN.{length, getD, drop}
-use Rattle.planner.proofs.SearchLaws.{copied-more}
+use Rattle.sets.proofs.Filled.{Pasted, pasted-start, pasted-turn, pasted-end}
+use Rattle.planner.proofs.SearchLaws.{copied-front}
 use Rattle.planner.proofs.search.copy.Statement.{statement}
 use Rattle.planner.proofs.search.copy.Tie as tie
 
 abbrev Inv-loop : tie.InvT-loop
-Inv-loop out₀ words k i₀ out i =
-    (i ≤ k) × (length out ≡ length out₀) × (((m : ℕ) → m < i → getD out m 0 ≡ getD words m 0) × (drop k out ≡ drop k out₀))
+Inv-loop out₀ words k from i₀ out i = (i ≤ k) × Pasted out₀ 0 from out i
 
 abbrev μ-loop : tie.MeasureT-loop
-μ-loop out₀ words k i₀ out i = k - i
+μ-loop out₀ words k from i₀ out i = k - i
 
 loop-holds : tie.Need-loop-holds Inv-loop μ-loop
-loop-holds c = search needs
+loop-holds c = (omega arith, pasted-start (c .before .args .out .now) 0 (c .before .args .words .now))
 
 mul-out : tie.Need-mul-out Inv-loop μ-loop
 mul-out c = search needs
 
-element-copy-out-out : tie.Need-element-copy-out-out Inv-loop μ-loop
-element-copy-out-out c = search needs
+shared-slice-read-out : tie.Need-shared-slice-read-out Inv-loop μ-loop
+shared-slice-read-out c = search needs
 
 mul-out-2 : tie.Need-mul-out-2 Inv-loop μ-loop
 mul-out-2 c = search needs
@@ -39,18 +37,21 @@ loop-less c = search needs
 
 loop-again : tie.Need-loop-again Inv-loop μ-loop
 loop-again c =
-    let w = c .before .before .before in
+    let w = c .before .before .before .before in
     let l = c .before .before .loop in
     let i : l .i < w .args .k = c .before .loop-test .taken in
-    (omega arith, search needs, copied-more (w .args .k) (l .i) _ (w .args .words .now) (w .args .out .now) (l .out) i (omega (arith, w .pre .1, l .inv .1)) refl (l .inv .2))
+    let place : l .i ≡ 0 + l .i = omega arith in
+    (omega arith, pasted-turn (w .args .out .now) 0 (w .args .words .now) (l .out) (l .i) (l .inv .1) (omega (arith, w .pre .1)) (omega (arith, w .pre .0, c .before .before .before .from .given .0)) place refl)
 
 same-length : tie.Need-same-length Inv-loop μ-loop
 same-length c = search needs
 
 returns : tie.Need-returns Inv-loop μ-loop
 returns c =
+    let w = c .before .before .before in
     let l = c .before .loop in
-    (λ i b. l .inv .2 .0 i (omega (arith, l .inv .0, c .loop-test .left)), l .inv .2 .1)
+    copied-front (w .args .k) (w .args .words .now) (w .args .out .now) (l .out) (omega (arith, w .pre .0, c .before .before .from .given .0))
+    (pasted-end (w .args .out .now) 0 (w .args .words .now) (l .out) (l .i) (w .args .k) (l .inv .1) (l .inv .0) (c .loop-test .left))
 
 pub copy-spec : {M : Type 1} → statement M
 copy-spec =
@@ -60,7 +61,7 @@ copy-spec =
     μ-loop
     loop-holds
     mul-out
-    element-copy-out-out
+    shared-slice-read-out
     mul-out-2
     slice-write-out
     add-i
