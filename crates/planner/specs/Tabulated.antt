@@ -18,19 +18,19 @@ pub record Layered (F : Fitting) (h : ℕ) (members words : List ℕ) : Type 0 w
   pub rows : (j : ℕ) → j < h → rowOf words j ≡ roundAfter F j .words
   pub long : 64 * h ≤ length words
 
--- the words of layers 1 to h stand in front
+-- the words of layers 1 to h are in front
 pub record Laid (F : Fitting) (h : ℕ) (members words : List ℕ) : Type 0 where
   pub few : length members ≡ 16
   pub many : length words ≡ 1024
   pub vertices : (j : ℕ) → j < h → getD members j 0 ≡ roundAfter F j .members
   pub rows : (j : ℕ) → j < h → rowOf words j ≡ roundAfter F j .words
 
--- the words of one layer are put in place, and those in front of them keep
+-- the words of one layer are put in place, and those in front of them stay as they were
 pub record Put (j : ℕ) (row old new : List ℕ) : Type 0 where
   pub many : length new ≡ length old
   pub here : rowOf new j ≡ row
   pub before : (i : ℕ) → i < j → rowOf new i ≡ rowOf old i
 
--- the words 0 to k - 1 are copied, and the others keep
+-- the words 0 to k - 1 are copied, and the others stay as they were
 abbrev pub Copied : ℕ → List ℕ → List ℕ → List ℕ → Type 0
 Copied k words old new = ((i : ℕ) → i < k → getD new i 0 ≡ getD words i 0) × (drop k new ≡ drop k old)
