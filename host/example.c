@@ -5,7 +5,7 @@
  *     tools/job write jobs/kitchen.txt -o target/kitchen.job
  *     target/example target/kitchen.job
  *
- * Where the library is there already, in lib/, the first line falls away, and lib/ stands for target/lib/.
+ * If the library is there already, in lib/, the first line falls away, and lib/ takes the place of target/lib/.
  *
  * Status: 1 if a file was refused or could not be read; else 3 if one has no kitchen or no plan; else 0. 2 is misuse.
  */
@@ -45,7 +45,7 @@ static int without(uint32_t reason, const uint64_t out[2])
     return REFUSED;
 }
 
-/* Our own partition, the order as the only goal, and no floor. The order stands in the bytes 3 to 10. */
+/* Our own partition, the order as the only goal, and no floor. The order is in the bytes 3 to 10. */
 static int choose(const uint8_t *file, size_t len)
 {
     uint8_t groups[KITCHEN_ARTICLES];

@@ -5,7 +5,7 @@
 //!     tools/job write jobs/kitchen.txt -o target/kitchen.job
 //!     target/example_rs target/kitchen.job
 //!
-//! Where the library is there already, in lib/, the first line falls away, and lib/ stands for target/lib/.
+//! If the library is there already, in lib/, the first line falls away, and lib/ takes the place of target/lib/.
 //!
 //! Status: 1 if a file was refused or could not be read; else 3 if one has no kitchen or no plan; else 0. 2 is misuse.
 
@@ -83,7 +83,7 @@ fn names(file: &[u8], set: u64) -> String {
     (0..64).filter(|i| set >> i & 1 == 1).map(|i| format!(" {};", name(file, i))).collect()
 }
 
-/// Our own partition, the order as the only goal, and no floor. The order stands in the bytes 3 to 10.
+/// Our own partition, the order as the only goal, and no floor. The order is in the bytes 3 to 10.
 fn chosen(file: &[u8]) -> Result<String, Refusal> {
     let groups = partition(file)?;
     let order = file[3..11].iter().rev().fold(0, |order, byte| order << 8 | u64::from(*byte));

@@ -11,8 +11,8 @@
         print(sorted(answer.articles))
 
 A job file is bytes; docs/RULES.md says how it is laid out, and include/kitchen.h what each call takes and answers. Sets
-are Python sets of numbers. `NoSelection` and `NoPlan` are answers. `Refused(number, place)` is raised where a call is
-turned down, and `Unusable` where a job cannot be written or the library cannot be used.
+are Python sets of numbers. `NoSelection` and `NoPlan` are answers. `Refused(number, place)` is raised if a call is
+turned down, and `Unusable` if a job cannot be written or the library cannot be used.
 
 What is built, written and read here is plain Python and only tested; what `Library` answers is what the proved calls
 answered for these very bytes.
@@ -94,7 +94,7 @@ def step(needs=(), gives=(), takes=(), name=b""):
 
 
 def choice(wishes, order, articles):
-    """A job with so many wishes. A clash may be said at either of two articles; a file says it at the later."""
+    """A job with this many wishes. A clash may be said at either of two articles; a file says it at the later."""
     articles = list(articles)
     clashes = [set() for _ in articles]
     for number, record in enumerate(articles):
@@ -108,7 +108,7 @@ def choice(wishes, order, articles):
 
 
 def fitting(facts, horizon, start, goal, steps):
-    """A job with so many facts."""
+    """A job with this many facts."""
     return usable(Job(FITTING, facts, horizon, [set(start), set(goal)], list(steps)))
 
 
@@ -169,7 +169,7 @@ def written(job):
 
 # ---- reading a job file
 
-# What stands where: the first byte, how many there are, what they hold, the record or None, and for a set the number
+# What is where: the first byte, how many there are, what they hold, the record or None, and for a set the number
 # that its members have to be below; None for all else.
 Item = namedtuple("Item", "place width what record bound")
 
@@ -276,7 +276,7 @@ LARGEST = 2**64 - 1
 
 
 def library_path():
-    """Where the library stands in the project, built by tools/library, and where in an unpacked distribution."""
+    """Where the library is in the project, built by tools/library, and where in an unpacked distribution."""
     root = pathlib.Path(__file__).resolve().parent.parent
     paths = [root / "target" / "lib" / "libkitchen.so", root / "lib" / "libkitchen.so"]
     return next((path for path in paths if path.exists()), None)
@@ -402,7 +402,7 @@ class Library:
     # -- either kind
 
     def name(self, file, number):
-        """The name of an article or step, a part of the file's bytes; empty where there is none."""
+        """The name of an article or step, a part of the file's bytes; empty if there is none."""
         start, length = self.answered("name", file, word(number))
         return file[start : start + length]
 

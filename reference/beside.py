@@ -107,7 +107,7 @@ class Beside:
         self.same(f"{sort}_layer", (file, k, (width, buffer)), expected, found and found[1])
 
     def plan(self, file, count):
-        """Which of the shortest plans ours gives is free: its words are tried, and the others have to keep."""
+        """Which of the shortest plans ours gives is free: its words are tried, and the others have to stay as they were."""
         buffer = [MARK[4]] * count
         found, expected = self.answer(lambda pair: (pair[1], 0), rules.plan, file, count)
         if not found:
@@ -223,8 +223,8 @@ class Beside:
                 self.layer(file, sort, k, count)
 
     def fitting_in_full(self, file):
-        """Every layer, and the plan in so many words. Where there are few facts, every start and goal as well: by these the
-        layers tell what each step needs, gives and takes."""
+        """Every layer, and the plan in 0 words up to one more than the horizon. If there are few facts, every start and goal
+        as well: by these the layers tell what each step needs, gives and takes."""
         job = rules.read(file, (FITTING,))
         self.layers_in_full(file)
         for count in range(job.horizon + 2):

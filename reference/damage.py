@@ -10,7 +10,7 @@ from reader import BASES, Refused, read
 
 
 def reason_and_place(file):
-    """Both are 0 where the file is accepted."""
+    """Both are 0 if the file is accepted."""
     try:
         read(file)
         return 0, 0

@@ -25,7 +25,7 @@ def drawn_choice(draw):
 
 def wide_choice(draw):
     """64 articles and 64 wishes, at the edge of the words. There are two or three sorts of articles, and two of one sort
-    clash; where there are three sorts many others do, too, so that there are few sets to try."""
+    clash; if there are three sorts, many others do, too, so that there are few sets to try."""
     sorts, further, ordered = draw.choice([(2, 0, 10), (3, 0.5, 5)])
     sort = [draw.randrange(sorts) for _ in range(64)]
     clashes = [{j for j in range(i) if sort[j] == sort[i] or draw.random() < further} for i in range(64)]
@@ -44,8 +44,8 @@ def drawn_fitting(draw):
 
 
 def walk(draw, n, horizon):
-    """Two start at two of n places; each step leads one of them on to a place not far behind, and some need the other to be
-    where it started. It takes many rounds."""
+    """Two start at two of n places; each step leads one of them on to a place not far after its own, and some need the other
+    to be where it started. It takes many rounds."""
     place = draw.sample(range(n), n)
     steps = []
     for i in range(n):
@@ -89,7 +89,7 @@ def small_fittings():
 
 
 def damaged(file, draw):
-    """Every truncation; each byte with a bit changed and as another byte; bytes behind the end."""
+    """Every truncation; each byte with a bit changed and as another byte; bytes after the end."""
     for n in range(len(file)):
         yield file[:n]
         for byte in (file[n] ^ 1 << draw.randrange(8), draw.randrange(256), 255):
@@ -99,7 +99,7 @@ def damaged(file, draw):
 
 
 def over_limits():
-    """Files that end with a count over its limit, and the same with bytes behind it."""
+    """Files that end with a count over its limit, and the same with bytes after it."""
     for head in ([CHOICE, 65], [CHOICE, 64, 65], [FITTING, 33], [FITTING, 32, 33], [FITTING, 0, 32, 17]):
         yield bytes(head)
         yield bytes(head) + bytes(200)

@@ -1,6 +1,6 @@
 """The layers of the planning graph, from docs/RULES.md alone.
 
-It is no program, and shares nothing with crates/. A layer here has its members, and the pairs of them that are mutex.
+It is no program, and shares nothing with crates/. A layer here has its members, and the pairs of members that are mutex.
 """
 
 from collections import namedtuple

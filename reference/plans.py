@@ -3,7 +3,7 @@
 
 It shares nothing with crates/. The gate compares the two texts and says how many lines it compared. Which of the shortest
 plans is answered is free, so the text has only their length; the program tries the plan that it gets by itself. The rounds
-are printed where there is one shortest plan, and this is tested here. Facts are sets of reader.py in a file, and a
+are printed if there is one shortest plan, and this is tested here. Facts are sets of reader.py in a file, and a
 number by its bits in the search.
 """
 
@@ -22,7 +22,7 @@ def number(s):
 
 
 class Steps:
-    """The steps of a job, and for each those of them that it is disturbed by."""
+    """The steps of a job, and for each the others that it is disturbed by."""
 
     def __init__(self, steps):
         self.needs, self.gives, self.takes = ([number(s[k]) for s in steps] for k in range(3))
@@ -83,7 +83,7 @@ def fewest(job):
 
 
 def plans(job, count):
-    """All plans of so many rounds."""
+    """All plans of `count` rounds."""
     steps, goal = Steps(job.steps), number(job.goal)
 
     def further(facts, left):
@@ -98,7 +98,7 @@ def plans(job, count):
 
 
 def plan(file, words):
-    """The job and its fewest rounds, where so many words are lent."""
+    """The job and its fewest rounds, if `words` words are lent."""
     job = read(file)
     if words < job.horizon:
         raise Refused(10, 0)
@@ -203,7 +203,7 @@ def generator(x):
 
 
 def draws(numbers, count, bound):
-    """A set by so many draws; a number may be drawn twice."""
+    """A set by `count` draws; a number may be drawn twice."""
     return {next(numbers) % bound for _ in range(count)}
 
 

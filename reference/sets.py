@@ -23,7 +23,7 @@ def number(s):
 
 
 def members(n):
-    """The set that a number stands for."""
+    """The set that has this number."""
     return {i for i, digit in enumerate(reversed(f"{n:b}")) if digit == "1"}
 
 

@@ -21,7 +21,7 @@ OPENED = re.compile(rf"{MARKS}(?:record|data|module)\b")
 
 @dataclasses.dataclass
 class Declared:
-    """The names that are declared, by the sort of place: of a function all that may stand before it (`crate::`, `module::`, `Type::`)."""
+    """The names that are declared, by the sort of place: of a function all that may come before it (`crate::`, `module::`, `Type::`)."""
 
     crates: set = dataclasses.field(default_factory=set)
     edits: set = dataclasses.field(default_factory=set)
@@ -30,7 +30,7 @@ class Declared:
     functions: dict = dataclasses.field(default_factory=dict)
 
     def function(self, name):
-        """Whether there is such a function, in that place where one is named."""
+        """Whether there is such a function, in that place if one is named."""
         place, _, last = name.rpartition("::")
         return last in self.functions and (not place or place in self.functions[last])
 
@@ -40,7 +40,7 @@ class Declared:
 
 def signatures(text):
     """The names that a file of antt declares, each with whether it is `pub`: definitions, fields and constructors. What is not `pub` counts at the
-    top of the file, and of a block that begins there: what stands deeper is mostly local to a definition."""
+    top of the file, and of a block that begins there: what is deeper is mostly local to a definition."""
     opened = False
     for line in source.antt(text).splitlines():
         indent = len(line) - len(line.lstrip())
@@ -107,7 +107,7 @@ def tables(text):
 
 
 def traced(root):
-    """How many names docs/TRACE.md has: each is declared in the crates, in the way of its column, or is a file; and every edit stands there."""
+    """How many names docs/TRACE.md has: each is declared in the crates, in the way of its column, or is a file; and every edit is named there."""
     text, there = (root / "docs" / "TRACE.md").read_text(), names(root)
     is_file = lambda name: "/" in name and (root / name).is_file()
     by_column = {

@@ -23,7 +23,7 @@ def labelled(root):
 
 
 def lines(text):
-    """The lines of an edit as pairs of a kind and what stands behind it; rt passes over a line of no kind, so there must be none."""
+    """The lines of an edit as pairs of a kind and what comes after it; rt passes over a line of no kind, so there must be none."""
     pairs = []
     for line in filter(str.strip, text.splitlines()):
         kind, colon, said = line.partition(":")

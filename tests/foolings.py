@@ -1,6 +1,6 @@
 """Ways to fool the gate, each planted in a scratch copy or in a text: the gate has to find every one.
 
-Called as `python3 -B tests/foolings.py` in the repository's root, where tools/library has built the library. The last line is
+Called as `python3 -B tests/foolings.py` in the repository's root, after tools/library has built the library. The last line is
 `N checks`, and the status 0; or what failed is printed, and the status is 1.
 """
 import contextlib
@@ -34,7 +34,7 @@ def check(holds, label):
 
 
 def passes(label, function, *arguments):
-    """Where nothing is planted, nothing is found."""
+    """If nothing is planted, nothing is found."""
     try:
         function(*arguments)
         check(True, label)
@@ -52,7 +52,7 @@ def found(label, words, function, *arguments):
 
 
 def changed(text, old, new):
-    """A text with these words changed, which stand in it once."""
+    """A text with these words changed, which are in it once."""
     if text.count(old) != 1:
         raise ValueError(f"'{old}' stands {text.count(old)} times in what is to be changed")
     return text.replace(old, new)
@@ -346,7 +346,7 @@ def architecture(folder):
 
 
 def result_of(seen, least):
-    """Why a check that sees so many things fails, where these are demanded."""
+    """Why a check that sees this many things fails, if these are demanded."""
 
     def emptied():
         return seen

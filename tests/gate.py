@@ -1,6 +1,6 @@
 """The checks of the gate, one function each. Called by ./test in the repository's root; docs/ARCHITECTURE.md says what each is for.
 
-A check returns how many things it saw pass, and raises Failed with the reason where one did not; its docstring is what
+A check returns how many things it saw pass, and raises Failed with the reason if one did not; its docstring is what
 `./test --list` says of it. One that finds nothing to look at fails, and so does one that sees fewer things than
 tests/least.py says: it has shown nothing. tests/run.py runs them.
 """
@@ -116,7 +116,7 @@ def nothing_foreign():
 
 
 def assumed(verdict):
-    """How many C functions a verdict assumes. rt counts them where something is built to run, and says so by `target=`."""
+    """How many C functions a verdict assumes. rt counts them if something is built to run, and says so by `target=`."""
     demand(" target=" in verdict, f"this verdict counts no C functions: {verdict}")
     counted = re.search(r"\baxioms=(\d+)", verdict)
     return int(counted[1]) if counted else 0
@@ -124,7 +124,7 @@ def assumed(verdict):
 
 def assumptions_as_stated():
     """Each program, and the C library, assumes as many C functions as README.md says, in a row with its name and `axioms=N`; the library none."""
-    built_library()  # rt counts what a library assumes only where it makes an archive of it
+    built_library()  # rt counts what a library assumes only if it makes an archive of it
     counted = {"libkitchen": assumed(verdict("capi")), **{name: assumed(verdict(name)) for name in programs()}}
     stated = re.findall(r"^\| `(\w+)`[^\n]*`axioms=(\d+)`", (ROOT / "README.md").read_text(), re.M)
     demand(sorted(stated) == sorted((name, str(count)) for name, count in counted.items()), f"README.md states {stated}, the check counts {counted}")
@@ -296,7 +296,7 @@ def every_call():
 
 
 def shown(text):
-    """The programs in C and in Python that stand in the header's comment, behind the command that builds the library."""
+    """The programs in C and in Python in the header's comment, after the command that builds the library."""
     blocks = [re.sub(r"^ \*     ", "", block, flags=re.M) for block in re.findall(r"(?:^ \*     .*\n)+", text, re.M)]
     demand(len(blocks) == 3 and blocks[0] == "tools/library\n", "the header shows how to build, a program in C, and one in Python")
     return blocks[1:]
@@ -366,7 +366,7 @@ def files_in(folder):
 
 
 def flags(folder):
-    """What the compiler is told of an installed library: by pkg-config, where that is there."""
+    """What the compiler is told of an installed library: by pkg-config, if that is there."""
     if not shutil.which("pkg-config"):
         return [f"-I{folder}/include", f"-L{folder}/lib", "-lkitchen"]
     # the folder where it is staged, in place of the one that it is made for
@@ -548,7 +548,7 @@ CHECKS = [
     *(second_program, kitchen_prints, small_stack, header, every_call, hosts, beside, faults, tool, first_command),
     *(showroom, showroom_faults, page, runner, foolings),
 ]
-# Pairs of a check and a further tool that it needs. They are run where the tool is there, and counted apart.
+# Pairs of a check and a further tool that it needs. They are run if the tool is there, and counted apart.
 EXTRA = [(as_cpp, "c++"), (rust, "rustc"), (installed, "make"), (dist, "make")]
 
 if __name__ == "__main__":

@@ -55,7 +55,7 @@ def same_prototypes(header, capi):
 
 
 def redeclared(capi):
-    """A file of C that a compiler refuses where the header has another type for a function of capi. The types stand before the header, so that nothing in it can change them."""
+    """A file of C that a compiler refuses if the header has another type for a function of capi. The types come before the header, so that nothing in it can change them."""
     made = prototypes(capi)
     lines = ["#include <stddef.h>", "#include <stdint.h>"]
     lines += ["typedef " + prototype.replace(f" {name}(", f" of_{name}(") + ";" for name, prototype in made.items()]

@@ -1,10 +1,10 @@
 """The least counts: how many things each check of the gate has to see. One that sees fewer fails, so that no test can be emptied unseen.
 
 A landing that adds things raises its number here, and one that lowers a number says why in its note. The numbers are those of
-the last landing, a little less where a machine may see fewer.
+the last landing, a little less if a machine may see fewer.
 """
 
-# What stands in the repository (`counts`).
+# What is in the repository (`counts`).
 THERE = {
     "crates": 31,
     "programs": 6,

@@ -179,7 +179,7 @@ def name_of(cell):
 
 
 def grid(table, word):
-    """The names of the columns and of the rows of a grid, which rows are chosen, the words, and where the sign stands."""
+    """The names of the columns and of the rows of a grid, which rows are chosen, the words, and where the sign is."""
     columns = [name_of(cell)[0] for cell in table.findall("thead/tr")[-1].findall("th") if cell.get("class") != "corner"]
     rows, chosen, words, marks = [], set(), [], set()
     for number, row in enumerate(table.find("tbody")):
@@ -221,7 +221,7 @@ def header_width(table):
 
 
 def form(label, source):
-    """The elements of a page; none where it is not well formed."""
+    """The elements of a page; none if it is not well formed."""
     try:
         root = xml.etree.ElementTree.fromstring(source)
     except (xml.etree.ElementTree.ParseError, UnicodeEncodeError) as error:
@@ -297,7 +297,7 @@ def fitting_page(label, text, answer, found, root):
 
 
 def whole_page(label, title, text, answer, found, lines, source):
-    """A page has the answer first, all lines of the answer and the advice, what stands in the text, and nothing more."""
+    """A page has the answer first, all lines of the answer and the advice, what is in the text, and nothing more."""
     root = form(label, source)
     if not len(root):
         return

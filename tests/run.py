@@ -1,7 +1,7 @@
 """How the checks of tests/gate.py are run: the arguments of ./test, the progress of rt, the summary.
 
 A check is a function whose docstring says in one sentence what it sees. It returns how many things it saw pass,
-and raises Failed with the reason where one did not. A check that breaks, or saw nothing, or saw fewer things than
+and raises Failed with the reason if one did not. A check that breaks, or saw nothing, or saw fewer things than
 tests/least.py says, has not passed.
 """
 import argparse
@@ -29,7 +29,7 @@ def demand(condition, reason):
 
 
 def enough(seen, least):
-    """Of each thing that has a least count, at least so many were seen."""
+    """Of each thing that has a least count, at least that many were seen."""
     few = [f"{name}: {seen.get(name, 0)} and not {count}" for name, count in least.items() if seen.get(name, 0) < count]
     demand(least and not few, "fewer than tests/least.py says; " + ", ".join(few))
 
@@ -87,7 +87,7 @@ class RtRun:
         return next((line.strip() for line in reversed(self.lines) if line.strip()), "")
 
     def to_read(self, last=200):
-        """What to read where it failed: the last lines, and all before them that speak of trouble."""
+        """What to read if it failed: the last lines, and all before them that speak of trouble."""
         return "".join([line for line in self.lines[:-last] if TROUBLE.search(line)] + self.lines[-last:])
 
 
@@ -95,7 +95,7 @@ class RtRun:
 
 
 def snapshot():
-    """What stands in the tree beside target/ and .git/."""
+    """What is in the tree beside target/ and .git/."""
     seen = {}
     for base, folders, names in os.walk(ROOT):
         folders[:] = [f for f in folders if os.path.join(base, f) not in ("./target", "./.git")]
@@ -138,7 +138,7 @@ def tried(check, least):
 
 
 def tried_with(tool, check, named, least):
-    """Runs a check that needs a further tool. Without the tool it is not tried, which is a failure where it was named."""
+    """Runs a check that needs a further tool. Without the tool it is not tried, which is a failure if it was named."""
     if shutil.which(tool):
         return tried(check, least)
     print(f"not tried {check.__name__}: {tool} is missing", flush=True)

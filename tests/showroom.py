@@ -5,7 +5,7 @@ the last line is `N checks`, and the status 0; or what failed is printed, and th
 temporary folder only. `--fault K` makes a mistake in the tool on purpose (FAULTS below): then the status has to be 1.
 
 Answers are compared with reference/, which is written from docs/RULES.md alone, and advice with searches over all sets of
-articles and all rounds, which stand here.
+articles and all rounds, which are here.
 """
 
 import argparse
@@ -122,7 +122,7 @@ def tells_nothing(output):
 
 
 def record_name(job, number):
-    """An article or step by its name, and by its number where that is not enough."""
+    """An article or step by its name, and by its number if that is not enough."""
     name, plain = job.records[number].name.decode(), f"{job.kind.record} {number}"
     alone = sum(record.name == job.records[number].name for record in job.records) == 1
     return plain if not name else name if alone else f"{name} ({plain})"
@@ -227,7 +227,7 @@ def drawn_choice(draw, articles, wishes):
 
 
 def tight_choice(draw, articles, wishes):
-    """Each article carries a wish or two, all wishes are ordered, and many articles clash: several wishes stand in conflict."""
+    """Each article carries a wish or two, all wishes are ordered, and many articles clash: several wishes are in conflict."""
     n, w = draw.randrange(2, articles + 1), draw.randrange(2, wishes + 1)
     clash = draw.choice([0.3, 0.5, 0.7])
     records = []
@@ -240,7 +240,7 @@ def tight_choice(draw, articles, wishes):
 
 def linked_choice(draw, wishes):
     """Wishes in a row: the first and the last are carried by one article, those between by two, and each article excludes
-    one of the next wish. So no wish can be left out of the conflict. A further wish or article may stand by."""
+    one of the next wish. So no wish can be left out of the conflict. There may be a further wish or article."""
     carried = [0] + [wish for wish in range(1, wishes - 1) for _ in range(2)] + [wishes - 1]
     pairs = [(low, low + 1) for low in range(0, len(carried), 2)]
     free = draw.randrange(2)
@@ -271,7 +271,7 @@ def chain(draw, length, horizon):
 
 
 def readme_command():
-    """The README's first command, and its part behind the build."""
+    """The README's first command, and its part after the build."""
     blocks = re.findall(r"^```\n(.*?)^```$", (ROOT / "README.md").read_text(), re.M | re.S)
     found = [block.strip() for block in blocks if block.startswith("rt check kitchen")]
     check(len(found) == 1, f"README.md has the command once: {found}")
@@ -874,7 +874,7 @@ def why_not(tally, text, sets, found, label):
 
 
 def all_rounds(job, holds):
-    """Every set of steps that may be done together where this holds."""
+    """Every set of steps that may be done together if this holds."""
     found = [()]
     for number, step in enumerate(job.records):
         if step.sets[0] <= holds:
@@ -887,7 +887,7 @@ def disturb(a, b):
 
 
 def fewest_rounds(job, most):
-    """The fewest rounds after which the goal can hold, 0 where there is no plan of so many."""
+    """The fewest rounds after which the goal can hold, 0 if there is no plan of at most `most`."""
     states, seen = {frozenset(job.sets[0])}, set()
     for number in range(most + 1):
         if any(job.sets[1] <= holds for holds in states):
@@ -918,7 +918,7 @@ def which_horizon(tally, text, found, label):
 
 
 def as_lines(tally, folder, text, answer, expected, number, label):
-    """The advice stands behind the answer: now and then it is put into words, in turn here and by the command."""
+    """The advice comes after the answer: now and then it is put into words, in turn here and by the command."""
     answered = telling.told(text, answer)
     if number % 3:
         return
@@ -940,7 +940,7 @@ def as_lines(tally, folder, text, answer, expected, number, label):
 
 
 def second_further(job, number):
-    """The second program's choices at rising floors, behind the first."""
+    """The second program's choices at rising floors, after the first."""
     state = reader.read(kitchen.written(job))
     groups, goals, found, floor = rules.own_groups(state), [state.order] if state.order else [], [], 0
     while len(found) <= number:
@@ -1294,7 +1294,7 @@ def floorless(library, file, floor=0, goals=None, groups=None):
 
 
 true_conflict, true_further, true_choose = advising.conflict, asking.further, kitchen.Library.choose
-# What errs, where, what stands in its place, and the section that has to find it.
+# What errs, where, what is put in its place, and the section that has to find it.
 FAULTS = {
     1: ("in_every answers what in_some does", advising, "in_every", advising.in_some, "advise"),
     2: ("conflict leaves the last wish in", advising, "conflict", with_last_wish, "advise"),

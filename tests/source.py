@@ -2,7 +2,7 @@
 import re
 
 QUOTED = r'b?"(?:\\.|[^"\\])*"'
-# A comment of antt begins with `--` where a name may begin, or stands between `{-` and `-}`, one in another.
+# A comment of antt begins with `--` where a name may begin, or is between `{-` and `-}`, one in another.
 IN_ANTT = re.compile(rf'{QUOTED}|(?<![^\s(){{}}.;,@])--[^\n]*|\{{-|-\}}')
 # Rattle and C have the same comments.
 IN_RATTLE = re.compile(rf"{QUOTED}|b?'(?:\\.|[^'\\\n])'|//[^\n]*|/\*.*?(?:\*/|\Z)", re.S)

@@ -1,6 +1,6 @@
 """Tests of tools/job and host/kitchen.py. Called as `python3 -B tests/tool.py` in the repository's root.
 
-Neither kitchen nor the library is needed: what asks them stands in tests/showroom.py. The last line is `N checks`, and the
+Neither kitchen nor the library is needed: what asks them is in tests/showroom.py. The last line is `N checks`, and the
 status 0; or what failed is printed, and the status is 1. Files are written to a temporary folder only.
 """
 
@@ -279,7 +279,7 @@ FAULTY = [
         [(5, '"c"'), (6, "with itself"), (7, "expected"), (8, "40 bytes"), (9, '"d"')],
     ),
 ]
-# What stands behind something else is no comment. The line of the fault comes first.
+# What comes after something else is no comment. The line of the fault comes first.
 NO_COMMENT = [
     (1, CHOICE.replace("choice", "choice # it is")),
     (1, FITTING.replace("fitting", "fitting #")),
@@ -386,7 +386,7 @@ def broken(data):
 
 
 def in_time(seconds, text, line, phrase):
-    """The first fault of a large text is found within so many seconds."""
+    """The first fault of a large text is found within this many seconds."""
     start = time.process_time()
     faults = faults_of(text)
     report = texts.remarks("", text.encode(), faults)
@@ -980,7 +980,7 @@ def choice_rules():
 
 
 def drawn_rounds(job, source, most):
-    """Rounds that may follow each other, until the goal holds or there are so many; and whether it holds."""
+    """Rounds that may follow each other, until the goal holds or there are `most` of them; and whether it holds."""
     facts, found = set(job.start), []
     while not job.goal <= facts and len(found) < most:
         possible = [r for r in second.rounds(job, facts) if r]
@@ -1126,7 +1126,7 @@ def closed_streams(folder):
 
 
 def rights(folder):
-    """Files that may not be read or written, where that can be tried."""
+    """Files that may not be read or written, if that can be tried."""
     text, closed = folder / "secret.txt", folder / "closed"
     text.write_text(KITCHEN)
     text.chmod(0)

@@ -1,4 +1,4 @@
-//! How the cost grows with the size of a job: at each point so many drawn instances, of ours and of the twin.
+//! How the cost grows with the size of a job: at each point some drawn instances, of ours and of the twin.
 
 use crate::families::random::Random;
 use crate::families::{fittings, networks, Instances};

@@ -101,7 +101,7 @@ pub struct Effort {
     pub seconds: f64,
 }
 
-/// After so many seconds a case is not repeated any more.
+/// After this many seconds a case is not repeated any more.
 const PATIENCE: f64 = 4.0;
 
 /// Seconds of ours and of the twin: the best of several repetitions, taken in turn so that both meet the same noise.

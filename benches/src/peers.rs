@@ -3,12 +3,12 @@
 //! default settings. Its time is that from the start of the process to its end, less what the start takes on an empty
 //! instance. Below about a millisecond that difference is mostly noise.
 //!
-//! Where the question cannot be the same, it is easier for the peer:
+//! If the question cannot be the same, it is easier for the peer:
 //! - Choice: we give the smallest selection at or above the floor. `seconds` asks only whether there is one, as a CNF.
 //!   `optimum_seconds` asks clasp the whole question, as a program with a level of optimization for each article; the
 //!   grounding is not timed.
 //! - Plan: we find the fewest rounds L. The peers are told L, and only asked whether a plan of L rounds exists and,
-//!   where L is not 0, that none of L - 1 rounds does; where we found no plan, that none of as many rounds as the
+//!   if L is not 0, that none of L - 1 rounds does; if we found no plan, that none of as many rounds as the
 //!   horizon exists. The times of the two are added.
 //!
 //! Plans are encoded with a variable a round for each fact and each step, and with frame axioms that explain each fact
@@ -31,7 +31,7 @@ use std::time::{Duration, Instant};
 
 /// Runs of which the fastest is the start of a process.
 const STARTS: usize = 30;
-/// Runs of which the fastest counts, where one takes fewer than `SHORT` seconds.
+/// Runs of which the fastest counts, if one takes fewer than `SHORT` seconds.
 const REPEATS: usize = 3;
 const SHORT: f64 = 0.05;
 /// Seconds for a run that nobody measures against a limit.
@@ -46,7 +46,7 @@ pub enum Peer {
 /// What a peer took for a question.
 #[derive(Clone, Copy, Debug)]
 pub struct PeerTime {
-    /// Without the starts of its processes, never below 0. Where it timed out, it would have taken longer.
+    /// Without the starts of its processes, never below 0. If it timed out, it would have taken longer.
     pub seconds: f64,
     pub timed_out: bool,
     /// Each verdict that the peer gave is the one that our answer asks for. A run that timed out gave none; a run that
@@ -80,7 +80,7 @@ impl Peers {
         found.into_iter().filter(|(_, found)| !found).map(|(name, _)| name).collect()
     }
 
-    /// The time for the questions of existence that stand above; none if the peer is missing. `answer` is ours: the
+    /// The time for the questions of existence named above; none if the peer is missing. `answer` is ours: the
     /// selection or the count of rounds, or that there is none.
     pub fn seconds(&self, peer: Peer, question: &Question, answer: Option<u64>, limit: f64) -> Option<PeerTime> {
         let start = match peer {
@@ -213,7 +213,7 @@ fn run(command: &mut Command, limit: f64) -> io::Result<Run> {
     Ok(Run { seconds, timed_out, code, output: String::from_utf8_lossy(&output).into_owned() })
 }
 
-/// The fastest of some runs; one alone where it takes long.
+/// The fastest of some runs; one alone if it takes long.
 fn fastest(command: &mut Command, limit: f64) -> Run {
     let mut best = run(command, limit).expect("the peer runs");
     if best.seconds < SHORT && !best.timed_out {
@@ -391,7 +391,7 @@ fn shown(output: &str) -> u64 {
 
 // Plans.
 
-/// The plans of so many rounds.
+/// The plans of this many rounds.
 fn plan(job: &Fitting, rounds: usize) -> Cnf {
     let mut cnf = Cnf::default();
     let vertices = vertices(job);

@@ -25,14 +25,14 @@ impl Rival {
     }
 }
 
-/// What a solver took for an instance, or at least took where it was cut off.
+/// What a solver took for an instance; at least that, if it was cut off.
 #[derive(Clone, Copy)]
 pub struct Time {
     pub seconds: f64,
     pub cut_off: bool,
 }
 
-/// A rival's time below this many seconds is lost in the noise of process starts, and counts as so many.
+/// A rival's time below this many seconds is lost in the noise of process starts, and counts as this many.
 pub const LEAST: f64 = 0.0001;
 
 /// What was measured of an instance.

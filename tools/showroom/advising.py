@@ -18,15 +18,15 @@ from showroom.words import counted, names_of, series
 
 PATIENCE = 60  # seconds for the question whether a longer horizon would do: no plan may be long looked for
 
-# Where there is a kitchen: the articles that are in every one for this order, in none, and in some but not in every one.
+# If there is a kitchen: the articles that are in every one for this order, in none, and in some but not in every one.
 Articles = namedtuple("Articles", "every none some")
-# Where there is none: wishes of the order that no article carries; a part of the order that cannot be had, and from which
-# no wish can be left out; and for each wish of it a kitchen for the rest of the part, and whether the rest of the whole
-# order can be had.
+# If there is none: wishes of the order that no article carries; a part of the order that has no kitchen, and from which no
+# wish can be left out; and for each wish of it a kitchen for the rest of the part, and whether the rest of the whole order
+# has one.
 Conflict = namedtuple("Conflict", "uncarried part rests")
 Rest = namedtuple("Rest", "wish kitchen enough")
-# Where there is no plan: goal facts that do not hold at the start and that nothing gives; the rounds of a shortest plan, 0
-# where it would have more than a file can state, and None where that was not answered in time.
+# If there is no plan: goal facts that do not hold at the start and that nothing gives; the rounds of a shortest plan, 0 if
+# it would have more than a file can state, and None if that was not answered in time.
 Horizon = namedtuple("Horizon", "ungiven rounds")
 
 
@@ -73,7 +73,7 @@ def articles(job, answer):
 
 
 def conflict(job):
-    """Takes a job without a selection. Wishes are left out one by one, as long as what is left cannot be had, either."""
+    """Takes a job without a selection. Wishes are left out one by one, as long as what is left has no selection, either."""
     part = set(job.sets[0])
     for wish in sorted(part):
         if not has_selection(ordered(job, part - {wish})):
@@ -113,7 +113,7 @@ def fewest(job):
 
 
 def advice(job, answer):
-    """What can be said beyond the answer; None where that is a plan."""
+    """What can be said beyond the answer; None if that is a plan."""
     if answer is NoSelection:
         return conflict(job)
     if answer is NoPlan:

@@ -9,7 +9,7 @@ from kitchen import CHOICE, Library, NoPlan, NoSelection, Plan, Refused, Selecti
 from showroom.rules import Broken, try_aside, try_no_plan, try_no_selection, try_plan, try_selection, try_smallest
 
 ROOT = pathlib.Path(__file__).resolve().parent.parent.parent
-# Where the program stands in the project, built by `rt check kitchen`, and where in an unpacked distribution.
+# Where the program is in the project, built by `rt check kitchen`, and where in an unpacked distribution.
 PLACES = (ROOT / "target" / "bin" / "kitchen", ROOT / "bin" / "kitchen")
 
 CHOSEN = re.compile(r"chosen((?: [0-9]{1,2})*)\naside((?: [0-9]{1,2})*)\n")
@@ -84,7 +84,7 @@ def plan_answer(job, output):
 
 
 def asked(job, limit=None):
-    """The answer of kitchen for a job, within so many seconds if a limit is given."""
+    """The answer of kitchen for a job, within `limit` seconds if a limit is given."""
     output = printed(written(job), limit)
     try:
         text = output.decode("ascii")
@@ -95,7 +95,7 @@ def asked(job, limit=None):
 
 
 def further(job, first, count):
-    """The next selections behind the first, by rising number, from the library's own calls."""
+    """The next selections after the first, by rising number, from the library's own calls."""
     try:
         found = list(islice(Library().selections(written(job)), count + 1))
         for answer in found:

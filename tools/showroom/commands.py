@@ -19,7 +19,7 @@ from showroom.texts import NUMBER, Faulty, is_fitting, remarks, stated
 from showroom.words import brief, clean, printed
 
 DONE, FAILED, MISUSED, NONE = 0, 1, 2, 3
-STANDARD = "-"  # stands for standard input, and behind -o for standard output
+STANDARD = "-"  # means standard input, and after -o standard output
 LARGEST = 4_000_000  # bytes of a text or job file; none comes near it
 
 
@@ -36,7 +36,7 @@ class Misuse(Exception):
 
 @contextlib.contextmanager
 def naming(what):
-    """What goes wrong with a file is told with its name. Where a pipe has no reader any more, nothing is told."""
+    """What goes wrong with a file is told with its name. If a pipe has no reader any more, nothing is told."""
     try:
         yield
     except BrokenPipeError:
@@ -67,7 +67,7 @@ def emit(output):
 
 
 def note(message):
-    """Writes to standard error. Where that cannot be written, the status says what there is to say."""
+    """Writes to standard error. If that cannot be written, the status says what there is to say."""
     with contextlib.suppress(OSError):
         if sys.stderr is not None:
             with open(2, "wb", closefd=False) as out:
@@ -75,7 +75,7 @@ def note(message):
 
 
 def put(output, target, source):
-    """Writes to a file, or to standard output where none is named. The text itself is not overwritten."""
+    """Writes to a file, or to standard output if none is named. The text itself is not overwritten."""
     if target is None:
         return emit(output)
     with naming(shown(target)):
@@ -158,7 +158,7 @@ def json_line(path, found):
 
 
 def all_texts(options):
-    """All texts are read before one is answered, so that misuse comes first. What cannot be read stands as its error."""
+    """All texts are read before one is answered, so that misuse comes first. What cannot be read comes as its error."""
     if options.texts.count(STANDARD) > 1:
         raise Misuse("standard input can be read only once")
     for path in options.texts:
@@ -254,7 +254,7 @@ def listed(text):
 
 
 def target(path):
-    """The file behind -o; None for standard output."""
+    """The file after -o; None for standard output."""
     return None if path == STANDARD else path
 
 

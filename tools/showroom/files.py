@@ -9,7 +9,7 @@ from showroom.words import counted, decoded, printed, quoted, series
 
 
 def bare(name):
-    """Whether a name can stand in a text without quotation marks."""
+    """Whether a name can be in a text without quotation marks."""
     text = decoded(name)
     clear = text.isprintable() and text == text.strip(" ") and not set(text) & set('",#')
     return clear and not FIELD.fullmatch(text) and not OPENING.fullmatch(text)
@@ -20,7 +20,7 @@ def name_text(name):
 
 
 def field_lines(indent, word, items):
-    """A field and its list, in lines of up to 100 characters where the names allow it."""
+    """A field and its list, in lines of up to 100 characters if the names allow it."""
     lines = [f"{indent}{word}:"]
     for number, item in enumerate(items, 1):
         item += "," if number < len(items) else ""

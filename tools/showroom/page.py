@@ -1,6 +1,6 @@
 """An answer as one page for a browser: one file, without scripts, that loads nothing.
 
-The page claims no more than the answer and the advice. All else on it stands in the text.
+The page claims no more than the answer and the advice. All else on it is in the text.
 """
 
 import html
@@ -90,7 +90,7 @@ th[scope=row] { background: var(--paper); }
 
 
 class Markup(str):
-    """Text that is HTML already. Any other text is escaped where it comes into an element."""
+    """Text that is HTML already. Any other text is escaped when it comes into an element."""
 
 
 def inside(parts):
@@ -98,7 +98,7 @@ def inside(parts):
 
 
 def element(tag, *parts, **attributes):
-    """An attribute that is None is left out. `class_` stands for class, and `aria_label` for aria-label."""
+    """An attribute that is None is left out. `class_` means class, and `aria_label` means aria-label."""
     given = [(name.rstrip("_").replace("_", "-"), str(value)) for name, value in attributes.items() if value is not None]
     start = tag + "".join(f' {name}="{html.escape(value)}"' for name, value in given)
     end = "\n" if tag in ("h1", "h2", "p", "caption", "tr") else ""
@@ -139,7 +139,7 @@ def texts_table(caption, rows, heads=()):
 
 
 def grid(caption, groups, head, rows):
-    """A table of signs. The groups of its columns behind the names are pairs of a count and a kind."""
+    """A table of signs. The groups of its columns after the names are pairs of a count and a kind."""
     count = sum(count for count, _ in groups)
     columns = [element("colgroup", span=count, class_=kind) for count, kind in [(1, None), *groups] if count]
     kind, style = "grid wide" if count > WIDE else "grid", f"--columns: {count}"
@@ -147,12 +147,12 @@ def grid(caption, groups, head, rows):
 
 
 def corner(title, depth=None):
-    """The header above the names of the rows, beside so many header rows if there are several."""
+    """The header above the names of the rows, beside `depth` header rows if there are several."""
     return element("th", title, scope="col", rowspan=depth, class_="corner")
 
 
 def group(title, count):
-    """The header above so many columns, if there are any."""
+    """The header above `count` columns, if there are any."""
     return [element("th", title, scope="colgroup", colspan=count)] if count else []
 
 
@@ -182,7 +182,7 @@ def articles_section(text, advice):
 
 
 def conflict_section(text, advice):
-    """The sentences of the advice. Its list, which is indented there, stands in a table."""
+    """The sentences of the advice. Its list, which is indented there, is a table here."""
     sentences = paragraphs(line for line in conflict_told(text, advice) if not line.startswith(" "))
     if len(advice.part) == 1:
         return section("Why not", sentences)

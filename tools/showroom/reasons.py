@@ -1,4 +1,4 @@
-"""Refusals in words: what a reason means, and what stands at its place in a file."""
+"""Refusals in words: what a reason means, and what is at its place in a file."""
 
 from kitchen import CHOICE
 from showroom.words import called, counted, quoted, series
@@ -11,7 +11,7 @@ NO_PLAN = (
     "No such plan exists: whatever steps are done in whatever rounds, the goal is not reached within {}. "
     "Either the horizon has too few rounds, or these steps cannot reach the goal at all."
 )
-# What is wrong, what the place is (None where it is always 0 and says nothing), and a remark.
+# What is wrong, what the place is (None if it is always 0 and says nothing), and a remark.
 REASONS = {
     1: (
         "the file is empty, or of a kind that the call does not take",
@@ -115,7 +115,7 @@ def owner(reader, item):
 
 
 def holding(reader, item):
-    """What the bytes of an item say; nothing where they are not all there."""
+    """What the bytes of an item say; nothing if they are not all there."""
     data = reader.file[item.place : item.place + item.width]
     if len(data) < item.width:
         have = "the file has none of them" if not data else f"the file has only {len(data)} of them"
@@ -132,7 +132,7 @@ def holding(reader, item):
 
 
 def standing(reader, place):
-    """What stands at a place of a file."""
+    """What is at a place of a file."""
     item = next((item for item in reader.items if item.place <= place < item.place + item.width), None)
     if item:
         content = f"{item.what}{owner(reader, item)}{holding(reader, item)}"
@@ -154,7 +154,7 @@ def verdict(reader):
 
 
 def place_in_file(number, place, reader):
-    """What stands at the place of a refusal, and how the file reads by itself where that is something else."""
+    """What is at the place of a refusal, and how the file reads by itself if that is something else."""
     same = reader.refusal and reader.refusal.number == number
     place = reader.refusal.place if same and place is None else place
     lines = []
@@ -169,7 +169,7 @@ def place_in_file(number, place, reader):
 
 
 def explained(number, place=None, reader=None):
-    """A refusal in words, and what stands at its place where a file was read."""
+    """A refusal in words, and what is at its place if a file was read."""
     wrong, meaning, remark = REASONS[number]
     lines = [f"Reason {number}: {wrong}."]
     if meaning is None:

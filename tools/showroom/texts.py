@@ -1,4 +1,4 @@
-"""From a text to a job: what stands in it, its faults by line, and warnings."""
+"""From a text to a job: what is in it, its faults by line, and warnings."""
 
 import difflib
 import re
@@ -9,7 +9,7 @@ from showroom.words import alike, brief, cited, decoded, series
 
 MOST_FAULTS = 20  # that are shown at once
 LONGEST_HINT = 100  # a longer word is not compared with the names that there are
-ORDER = 0  # stands for the line of a fault in an order that was given in place of the text's own
+ORDER = 0  # the line of a fault in an order that was given in place of the text's own
 
 # Every character that is a blank and nothing else: what a word processor or a web page puts in place of a space, too.
 BLANKS = " \t\u00a0\u1680\u2000\u2001\u2002\u2003\u2004\u2005\u2006\u2007\u2008\u2009\u200a\u202f\u205f\u3000"
@@ -24,7 +24,7 @@ WORDS["horizon"] = FITTING
 OPENINGS = tuple(word for kind in KINDS for word in (kind.word, kind.record))
 FIELD = re.compile(rf"({'|'.join(word for word in WORDS if word not in OPENINGS)}){BLANK}*:{BLANK}*(.*)")
 OPENING = re.compile(rf"({'|'.join(OPENINGS)})(?:{BLANK}+(.*))?")
-# One of the words with capitals, or with or without a colon where it should be the other way.
+# One of the words with capitals, or with or without a colon if it should be the other way.
 ALMOST = re.compile(rf"({'|'.join(WORDS)})(?:{BLANK}*:|{BLANK}|$){BLANK}*(.*)", re.IGNORECASE)
 OWN_LINE = "a comment stands in a line of its own"
 UNSEEN = "the line has a character that does not print"
@@ -33,7 +33,7 @@ UNSEEN = "the line has a character that does not print"
 Text = namedtuple("Text", "job names warnings")
 # A field of a text: its first line, and its items, each with its line.
 Field = namedtuple("Field", "line items")
-# An article or step of a text: its line, its name, or None where that is faulty, and its fields.
+# An article or step of a text: its line, its name, or None if that is faulty, and its fields.
 Entry = namedtuple("Entry", "line name fields")
 
 
@@ -68,7 +68,7 @@ def uncommented(line):
 
 
 def split(text):
-    """What stands between the commas of a list; a quoted name is not split."""
+    """What is between the commas of a list; a quoted name is not split."""
     items, at = [], 0
     while True:
         found = ITEM.match(text, at)
@@ -79,7 +79,7 @@ def split(text):
 
 
 class Names:
-    """The names that a list may refer to, by their numbers; None stands for a faulty one."""
+    """The names that a list may refer to, by their numbers; None means a faulty one."""
 
     def __init__(self, names):
         self.names, self.numbers = names, {}
@@ -101,7 +101,7 @@ class Names:
 
 
 class Draft:
-    """What stands in a text, and the faults found in it so far."""
+    """What is in a text, and the faults found in it so far."""
 
     def __init__(self, lines, order=None):
         """Takes pairs of a line number and a line, and a list in place of the text's order."""
@@ -123,7 +123,7 @@ class Draft:
             self.close()
 
     def fault(self, line, message, text=""):
-        """Notes a fault. Where the text in question has a `#`, it says where comments stand; and that something is unseen."""
+        """Notes a fault. If the text in question has a `#`, it says where comments belong; and that something is unseen."""
         message += f"; {OWN_LINE}" if "#" in text else ""
         self.faults.append((line, message + ("" if text.isprintable() else f"; {UNSEEN}")))
 
@@ -168,7 +168,7 @@ class Draft:
         return (*horizon, self.kind.members, *self.kind.heads)
 
     def expected(self):
-        """What may stand in this part of the text."""
+        """What may come in this part of the text."""
         words = self.kind.fields if self.entries else self.head_words()
         return "expected " + series([f'"{word}:"' for word in words] + [f'"{self.kind.record}"'], "or")
 
@@ -206,7 +206,7 @@ class Draft:
     # -- names and numbers
 
     def name(self, line, text):
-        """The bytes of a name; None where it is faulty."""
+        """The bytes of a name; None if it is faulty."""
         if not text:
             return self.fault(line, "a name is missing in front of a comma; expected one")
         if re.fullmatch(QUOTED, text):
@@ -231,7 +231,7 @@ class Draft:
         return ESCAPE.sub(lambda found: found[1] or bytes([int(found[2], 16)]), text.encode())
 
     def naming(self):
-        """The names that the head gives to wishes or facts, in their order; None where the head has no such list."""
+        """The names that the head gives to wishes or facts, in their order; None if the head has no such list."""
         field = self.head.get(self.kind.members)
         if field is None:
             return None
@@ -257,7 +257,7 @@ class Draft:
         return int(text)
 
     def reference(self, line, text, what, names, bound):
-        """The number that an item of a list stands for; None where it is faulty. Those below the bound are expected."""
+        """The number that an item of a list means; None if it is faulty. Those below the bound are expected."""
         span = "#0" + (f" to #{bound - 1}" if bound > 1 else "") if bound else f"none, as there is no {what} to name"
         if text.startswith("#"):
             if NUMBER.fullmatch(text[1:]) and int(text[1:]) < len(names):

@@ -1,4 +1,4 @@
-"""How names and numbers stand in a sentence."""
+"""How names and numbers are put in a sentence."""
 
 import unicodedata
 
@@ -10,7 +10,7 @@ def counted(count, one, several):
 
 
 def series(parts, word="and"):
-    """Parts as they stand in a sentence; with semicolons where a part has a comma or that word itself."""
+    """Parts as they are put in a sentence; with semicolons if a part has a comma or that word itself."""
     if len(parts) < 2 or any("," in part or f" {word} " in part for part in parts):
         return "; ".join(parts)
     return ", ".join(parts[:-1]) + f" {word} " + parts[-1]
@@ -22,7 +22,7 @@ def decoded(name):
 
 
 def quoted(name):
-    """A name in quotation marks, as it may stand in a text."""
+    """A name in quotation marks, as it may be in a text."""
 
     def shown(character):
         if character in '"\\':
@@ -35,7 +35,7 @@ def quoted(name):
 
 
 def cited(name):
-    """A name in quotation marks in a message, where a long one is cut."""
+    """A name in quotation marks in a message; a long one is cut."""
     return brief(quoted(name))
 
 
@@ -44,7 +44,7 @@ def brief(text):
 
 
 def clean(text):
-    """Lines for a terminal: a question mark stands for what does not print."""
+    """Lines for a terminal: a question mark takes the place of what does not print."""
     return "".join(c if c.isprintable() or c == "\n" else "?" for c in text)
 
 
@@ -54,12 +54,12 @@ def alike(name):
 
 
 def printed(name):
-    """A name as people read it: quoted only where something in it does not print."""
+    """A name as people read it: quoted only if something in it does not print."""
     return decoded(name) if decoded(name).isprintable() else quoted(name)
 
 
 def called(job, number):
-    """An article or step in a sentence: its name, and its number where there is no name or another looks the same."""
+    """An article or step in a sentence: its name, and its number if there is no name or another looks the same."""
     name, plain = job.records[number].name, f"{job.kind.record} {number}"
     if not name:
         return plain

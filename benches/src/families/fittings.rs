@@ -11,7 +11,7 @@ type Fact = (&'static str, usize, usize);
 
 const HORIZON: usize = 16;
 
-/// A job in the making: a fact gets its number where it is first named.
+/// A job in the making: a fact gets its number when it is first named.
 #[derive(Default)]
 struct World {
     facts: Vec<Fact>,
@@ -65,7 +65,7 @@ fn ask(label: impl Into<String>, job: Fitting) -> (String, Question) {
     (label.into(), Question::Plan { job })
 }
 
-/// The job with the largest horizon, and one round too short where it has a plan.
+/// The job with the largest horizon, and one round too short if it has a plan.
 fn and_short(named: Vec<(String, Fitting)>) -> Instances {
     let mut instances = Vec::new();
     for (label, job) in named {
@@ -205,7 +205,7 @@ fn flights(airline: &Airline) -> Fitting {
     world.job()
 }
 
-/// So many planes have to fly one route more than they have fuel for, and there are so many cans of fuel for them all.
+/// Planes have to fly one route more than they have fuel for, and there are some cans of fuel for them all.
 fn cans(planes: usize, cans: usize) -> Fitting {
     let mut world = World::default();
     for p in 0..planes {
@@ -490,8 +490,8 @@ pub fn counters(_: &mut Random) -> Instances {
 
 // Toggles
 
-/// Lamps on a ring, all dark. A step switches so many neighbours, by the states that they have: any for two, and for
-/// three those where an even count is lit, since all would be too many steps.
+/// Lamps on a ring, all dark. A step switches `switched` neighbours, by the states that they have: any for two, and for
+/// three those with an even count lit, since all would be too many steps.
 fn lamps(count: usize, switched: usize, goal: u64) -> Fitting {
     let mut world = World::default();
     let lamp = |i: usize, lit: bool| (if lit { "lit" } else { "dark" }, i % count, 0);
@@ -570,7 +570,7 @@ pub fn chain(random: &mut Random, needs: usize, takes: usize, goals: usize) -> F
 }
 
 /// Variables with values, a fact a value, and two steps for each: they change this value of the variable to another, if
-/// so many other variables have the values that the step asks for. The goal has a value a variable.
+/// `asked` other variables have the values that the step asks for. The goal has a value a variable.
 pub fn valued(random: &mut Random, variables: usize, values: usize, asked: usize) -> Fitting {
     let fact = |variable: usize, value: usize| 1u32 << (values * variable + value);
     let mut steps = Vec::new();

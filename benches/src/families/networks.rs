@@ -44,7 +44,7 @@ fn selection(job: &Choice, floor: u64) -> Option<u64> {
 const ARTICLES: usize = 64;
 
 /// The clique of each article. The paper's cliques have some 20 of 120 articles; here 1 to 20 of 64. Articles that are
-/// left over once so many cliques stand are each alone.
+/// left over after `most` cliques are each alone.
 fn cliques_of(random: &mut Random, articles: usize, most: usize) -> Vec<usize> {
     let mut clique = Vec::new();
     for number in 0..most {
@@ -71,7 +71,7 @@ fn random_network(random: &mut Random, articles: usize, wishes: usize, cliques: 
 
 const EDGES: [f64; 6] = [0.0, 0.02, 0.04, 0.06, 0.08, 0.1];
 
-/// Wishes, and the most cliques. The paper's goal of 60 has a cover only where many articles are in no clique: so the
+/// Wishes, and the most cliques. The paper's goal of 60 has a cover only if many articles are in no clique: so the
 /// smaller goals go with cliques alone, and the largest with 2 to 4 cliques and single articles.
 const GOALS: [(usize, usize); 8] = [(24, 64), (32, 64), (40, 64), (44, 64), (48, 64), (60, 4), (60, 3), (60, 2)];
 
@@ -87,7 +87,7 @@ pub fn random_networks(random: &mut Random) -> Instances {
     instances
 }
 
-/// A network of so many articles and wishes, by cliques alone.
+/// A network of this many articles and wishes, by cliques alone.
 pub fn of_size(random: &mut Random, articles: usize, wishes: usize) -> Question {
     let m = EDGES[random.below(EDGES.len())];
     Question::Choose { job: random_network(random, articles, wishes, articles, m), floor: 0 }

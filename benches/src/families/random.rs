@@ -30,7 +30,7 @@ impl Random {
         self.share() < probability
     }
 
-    /// The sum of twelve uniform draws stands for the normal distribution: no library function comes in that might
+    /// The sum of twelve uniform draws is used for the normal distribution: no library function comes in that might
     /// round otherwise elsewhere.
     pub fn normal(&mut self, mean: f64, deviation: f64) -> f64 {
         let sum: f64 = (0..12).map(|_| self.share()).sum();
@@ -46,7 +46,7 @@ impl Random {
         all
     }
 
-    /// So many different numbers below the bound, as a set.
+    /// `size` different numbers below the bound, as a set.
     pub fn subset(&mut self, size: usize, bound: usize) -> u64 {
         self.shuffled(bound).into_iter().take(size).map(|member| 1 << member).sum()
     }

@@ -1,5 +1,5 @@
 //! The worst instances that a search from drawn jobs and from those of all other families found: small changes at random
-//! were kept where the twin's nodes did not fall. They stand as job files; docs/PERFORMANCE.md says what they have in
+//! were kept if the twin's nodes did not fall. They are here as job files; docs/PERFORMANCE.md says what they have in
 //! common.
 
 use super::random::Random;

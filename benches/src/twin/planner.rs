@@ -11,7 +11,7 @@ const SLOTS: usize = 8191;
 const MANY: usize = 1024;
 const ALL: u64 = 0xffff_ffff;
 
-/// Sets of facts that so many rounds do not reach.
+/// Sets of facts that a count of rounds does not reach.
 struct Nogoods {
     slots: Vec<(usize, u64)>,
     /// Where the last was stored, from 1 on.
@@ -81,8 +81,8 @@ impl Search<'_> {
         result
     }
 
-    /// Of facts that k rounds do not reach, some that they do not reach either: one after the other is dropped where that
-    /// can be. It is worth its searches only where they are newly refuted, after the nogood `before`, and the search is
+    /// Of facts that k rounds do not reach, some that they do not reach either: one after the other is dropped if that
+    /// can be. It is worth its searches only if they are newly refuted, after the nogood `before`, and the search is
     /// long.
     fn dropped(&mut self, k: usize, refuted: u64, before: usize) -> u64 {
         let mut least = refuted;

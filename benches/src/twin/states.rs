@@ -1,4 +1,4 @@
-//! The states that single steps lead to from the start, where there are few.
+//! The states that single steps lead to from the start, if there are few.
 
 use super::reader::Fitting;
 

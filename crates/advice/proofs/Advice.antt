@@ -27,7 +27,7 @@ use Rattle.choice.proofs.ChoiceLaws.{cover-selection, selection-cover, selectio
 use Rattle.choice.proofs.CoverLaws.{covered-by, by-covered, widened, taken, given-up}
 use Rattle.choice.proofs.Theorems.{none-exactly, exactly-none, the-smallest}
 
--- an answer is none exactly if there is nothing, where it is a set exactly if there is something
+-- an answer that is a set exactly if there is something, is none exactly if there is nothing
 none-by : {P Q : ℕ → Type 0} (a : Option ℕ) → ((y : ℕ) × (a ≡ some y)) ↔ ((x : ℕ) × P x × Q x) → (a ≡ none) ↔ ((x : ℕ) → P x → Q x → ⊥)
 none-by none h = (λ e x p q. let (y, f) = h .1 (x, p, q) in Option·none-ne-some y f, λ fails. refl)
 none-by (some y) h = (λ e. absurd (Option·none-ne-some y (sym e)), λ fails. let (x, p, q) = h .0 (y, refl) in absurd (fails x p q))
@@ -43,7 +43,7 @@ module _ (N : Network) where
   pub part-selection : {p q : ℕ} → p ⊆ q → (x : ℕ) → Selection N q x → Selection N p x
   part-selection h x s = record { within = s .within; free = s .free; covers = λ i. le-trans (h i) (s .covers i) }
 
-  -- so where there is none for a part of the order, there is none for the order
+  -- so if there is none for a part of the order, there is none for the order
   pub none-for-part : {p q : ℕ} → p ⊆ q → ((x : ℕ) → Selection N p x → ⊥) → (x : ℕ) → Selection N q x → ⊥
   none-for-part h fails x s = fails x (part-selection h x s)
 
@@ -204,7 +204,7 @@ module _ {N : Type 0} (job : Job N) where
       (subst (λ (M : Network). ((x : ℕ) → Selection M (order job) x → ⊥) ↔ ((x : ℕ) → Selection (networkOf job) (order job) x → v ∈ x)) (sym (emptied-network (2 ^ v)))
       (Iff·symm (in-every (networkOf job) (order job) v)))
 
-  -- where there is no selection for a part of the order, the job has none
+  -- if there is no selection for a part of the order, the job has none
   pub part-none : (p : ℕ) → p ⊆ order job → smallestOf (ordered job p) ≡ none → smallestOf job ≡ none
   part-none p h e = none-answered (networkOf job) (order job) .1 (none-for-part (networkOf job) h (none-answered (networkOf job) p .0 e))
 

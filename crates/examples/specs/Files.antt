@@ -4,7 +4,7 @@ use Prim.Native.Nat.{ℕ}
 use lib.ListN.{take, set}
 
 -- A: articles 0 {wish 0}; 1 {1}, which clashes with 0; 2 {0, 1}; the order is {0, 1}. By lines: kind, articles, wishes; order; then the records,
--- each its bit map, its wishes and, where they are marked, its clashes: 46 bytes
+-- each its bit map, its wishes and, if they are marked, its clashes: 46 bytes
 abbrev pub fileA : List ℕ
 fileA =
     67 ∷ 3 ∷ 2
@@ -43,7 +43,7 @@ abbrev pub fileMany : List ℕ
 fileMany = set fileEmpty 1 65
 
 -- three articles, no wish, and nothing ordered; articles 1 and 2 have the name of one byte, 97. By lines: kind, articles, wishes; order; then the
--- records, each its bit map and, where it is marked, the length and the byte of its name
+-- records, each its bit map and, if it is marked, the length and the byte of its name
 abbrev pub fileNamed : List ℕ
 fileNamed =
     67 ∷ 3 ∷ 0

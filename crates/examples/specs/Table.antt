@@ -1,5 +1,5 @@
 -- The one table of the examples that docs/RULES.md marks with a star, and of others: what the open calls answer, from the bytes of the files, by the
--- numbers of the rules. A must-fail edit names the row that states what is right where its wrong program answers otherwise.
+-- numbers of the rules. A must-fail edit names the row whose right answer its wrong program does not give.
 use mathlib.Core.Path.{_≡_}
 use mathlib.Core.Bool.{Bool, true, false}
 use mathlib.Core.List.{List, [], _∷_, _++_}
@@ -49,7 +49,7 @@ leaves {A} call answer buffer = record { Sort = Left A; given = call; stated = r
 abbrev is : {A : Type 0} → A → A → Row
 is {A} given stated = record { Sort = A; given = given; stated = stated }
 
--- so many bytes or words that are lent, each of them 9; so many words 0
+-- n bytes or words that are lent, each of them 9; n words 0
 abbrev nines : ℕ → List ℕ
 nines n = replicate {A = ℕ} n 9
 
@@ -75,12 +75,12 @@ planPairs job = setOf (2 ^ size job * 2 ^ size job) (λ i. isPlan (fittingOf job
 abbrev planPairsOf : List ℕ → Answer ℕ
 planPairsOf file = onJob (readJob fittings file) (λ job. value (planPairs job))
 
--- what a fact layer leaves of 33 nines: the words of facts 0 and 1, of 30 absent facts, and word 32, which is kept
+-- what a fact layer leaves of 33 nines: the words of facts 0 and 1, of 30 absent facts, and word 32, which stays 9
 abbrev factWords : ℕ → ℕ → List ℕ
 factWords word0 word1 = word0 ∷ word1 ∷ (zeros 30 ++ nines 1)
 
 -- what a round layer of G leaves of 65 nines: the words of the keepers of facts 0 and 1, of the steps 0 and 1, which are vertices 32 and 33, of all
--- absent vertices, and word 64, which is kept
+-- absent vertices, and word 64, which stays 9
 abbrev roundWords : ℕ → ℕ → ℕ → ℕ → List ℕ
 roundWords keeper0 keeper1 step0 step1 = keeper0 ∷ keeper1 ∷ (zeros 30 ++ (step0 ∷ step1 ∷ (zeros 30 ++ nines 1)))
 
@@ -137,8 +137,8 @@ rowsNames =
     ∷ says (compareOf fileNamed (set fileNamed 14 98)) (answered true)
     ∷ []
 
--- no article, no wish, nothing ordered: the empty selection. Every number of the rules, 2, 8, 14 and 15 above, at a place of its own where it has one;
--- what is tested first; a buffer that is short keeps
+-- no article, no wish, nothing ordered: the empty selection. Every number of the rules, 2, 8, 14 and 15 above, at a place of its own if it has one;
+-- what is tested first; a buffer that is short stays as it was
 abbrev rowsNumbers : List Row
 rowsNumbers =
     says (chooseOf fileEmpty [] [] 0) (chosen 0 0)

@@ -1,4 +1,4 @@
--- The table of nogoods: what an entry refutes, and that a table stays right where an entry is added. Last, the test of the whole box.
+-- The table of nogoods: what an entry refutes, and that a table stays right if an entry is added. Last, the test of the whole box.
 -- Assumes nothing.
 use mathlib.Core.Path.{_≡_, refl, sym, ap, subst, _∙_}
 use mathlib.Core.Logic.{_⊎_, inl, inr, _≢_}
@@ -53,7 +53,7 @@ stored-nogoods T old new known k e stored few below none i pos = go (stored i po
     go (inl q) = subst (Right T) (sym q) (known i pos)
     go (inr q) = subst (Right T) (sym q) (pair-right T k e few below none)
 
--- what is stored need only be refuted where the test passed
+-- what is stored need only be refuted if the test passed
 pub stored-if : (T : Graph) (on : Bool) (old new : List ℕ) → Nogoods T old → (k e : ℕ) → StoredIf on k e old new → k ≤ length (T .members) → e < 2 ^ 32 → (on ≡ true → Back T k e → ⊥) → Nogoods T new
 stored-if T true old new known k e stored few below none = stored-nogoods T old new known k e stored few below (none refl)
 stored-if T false old new known k e same few below none = subst (Nogoods T) (sym same) known
@@ -70,7 +70,7 @@ pub stored-none : (on : Bool) (k e : ℕ) (table : List ℕ) → StoredIf on k e
 stored-none true k e table = λ i pos. inl refl
 stored-none false k e table = refl
 
--- the pair written at one place, where entry 0, which is no pair, was written before
+-- the pair written at one place, after entry 0, which is no pair, was written
 entered : (k e : ℕ) (table : List ℕ) (x at : ℕ) → at < length table → Stored k e table (set (set table 0 x) at (k * 2 ^ 32 + e))
 entered k e table x at l i pos = go (ℕ-discrete i at)
   where
@@ -91,7 +91,7 @@ stored-at false k e table x at t l = absurd (true≢false t)
 
 -- ---- the whole box
 
--- where the test passes, the box is the whole
+-- if the test passes, the box is the whole
 pub whole-box : (may all must : ℕ) → (eqb may all && eqb must 0) ≡ true → (may ≡ all) × (must ≡ 0)
 whole-box may all must t =
     let (same, none) = both-true (eqb may all) (eqb must 0) t in

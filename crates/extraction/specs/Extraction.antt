@@ -1,5 +1,5 @@
--- Plan extraction: working back over tables of round layers, one round at a time. What rounds and plans are stands in `planning`; here a
--- round for a goal is a selection of a round layer.
+-- Plan extraction: working back over tables of round layers, one round at a time. `planning` says what rounds and plans are; here a round
+-- for a goal is a selection of a round layer.
 use mathlib.Core.Path.{_≡_}
 use mathlib.Core.Bool.{Bool, true, false}
 use mathlib.Core.List.{List}
@@ -48,7 +48,7 @@ unfoldable pub Held : Graph → ℕ → ℕ → List ℕ → Type 0
 Held T zero g p = g ⊆ T .start
 Held T (suc j) g p = (x : ℕ) × Picks T j g x × (getD p j 0 ≡ x / 2 ^ 32) × Held T j (needsOf T x) p
 
--- needs are facts, there are at most 16 layers, the carriers are those of what is given and mutexes stand at both vertices, and what k
+-- needs are facts, there are at most 16 layers, the carriers are those of what is given and mutexes are said at both vertices, and what k
 -- rounds reach more rounds reach
 pub record Fine (T : Graph) (carriers : List ℕ) : Type 0 where
   pub inside : (v : ℕ) → getD (T .needs) v 0 ⊆ allFacts
@@ -63,7 +63,7 @@ Unreached T k g e = (e ⊆ g) × (Back T k e → ⊥)
 
 -- ---- nogoods
 
--- an entry of the table, from 1 on, is a count of rounds r and a set of facts, packed as r * 2 ^ 32 + set; where r is not 0, no r rounds reach the set
+-- an entry of the table, from 1 on, is a count of rounds r and a set of facts, packed as r * 2 ^ 32 + set; if r is not 0, no r rounds reach the set
 unfoldable pub Nogoods : Graph → List ℕ → Type 0
 Nogoods T table = (i : ℕ) → 0 < i → 0 < getD table i 0 / 2 ^ 32 → (getD table i 0 / 2 ^ 32 ≤ length (T .members)) × (Back T (getD table i 0 / 2 ^ 32) (getD table i 0 % 2 ^ 32) → ⊥)
 
@@ -76,7 +76,7 @@ Noted table k g (Known.Nogood c) = (c ⊆ g) × ((i : ℕ) × (0 < i) × (k ≤ 
 abbrev pub Stored : ℕ → ℕ → List ℕ → List ℕ → Type 0
 Stored k e old new = (i : ℕ) → 0 < i → (getD new i 0 ≡ getD old i 0) ⊎ (getD new i 0 ≡ k * 2 ^ 32 + e)
 
--- as Stored where the test passed, and else the old table
+-- as Stored if the test passed, and else the old table
 abbrev pub StoredIf : Bool → ℕ → ℕ → List ℕ → List ℕ → Type 0
 StoredIf true k e old new = Stored k e old new
 StoredIf false k e old new = new ≡ old
@@ -99,7 +99,7 @@ abbrev pub Refutes : Graph → ℕ → ℕ → ℕ → ℕ → ℕ → ℕ → T
 Refutes T zero g may must why e = Lacking T g why e
 Refutes T (suc j) g may must why e = Blocked T j g may must why e
 
--- a plan of k rounds for g stands in p; or facts of g, with those of why, that the selections of the box cannot be worked back for
+-- a plan of k rounds for g is in p; or facts of g, with those of why, that the selections of the box cannot be worked back for
 abbrev pub Extracted : Graph → ℕ → ℕ → ℕ → ℕ → ℕ → List ℕ → Outcome → Type 0
 Extracted T k g may must why p Outcome.Made = Held T k g p
 Extracted T k g may must why p (Outcome.Refuted e) = Refutes T k g may must why e

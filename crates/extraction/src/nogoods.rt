@@ -16,7 +16,7 @@ const MANY: u64 = 1024;
 // An entry is a count of rounds times this, plus a set of facts.
 const ROUND: u64 = 0x1_0000_0000;
 
-// What the table knows of some facts: a part of them that is a nogood, or nothing.
+// What the table knows of some facts: a nogood that is a part of them, or nothing.
 pub enum Known {
     Nogood(u64),
     Nothing,

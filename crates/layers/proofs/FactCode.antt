@@ -112,7 +112,7 @@ module _ (n : ℕ) (row : ℕ → ℕ) where
           let (k, h) = in-all s y g in
           omega (arith, bit-and (row a) others y, h a l e, all-in (without s (2 ^ a)) y k (λ x j m. h x j (in-less s a x m .0))))
 
-  -- A loop that visits the members of s from the lowest up: `all` is what the rows of those left behind share. It starts from all numbers,
+  -- A loop that visits the members of s from the lowest up: `all` is what the rows of those visited share. It starts from all numbers,
   pub all-start : (s : ℕ) → bitAnd (full n) (inAll n s row) ≡ inAll n s row
   all-start s = ext (bitAnd (full n) (inAll n s row)) (inAll n s row)
       (λ y. omega (arith, bit-and (full n) (inAll n s row) y, part-full n (inAll n s row) (set-below n (λ y. everyTo n (λ x. not (member s x) || member (row x) y))) y))
@@ -132,7 +132,7 @@ module _ (n : ℕ) (row : ℕ → ℕ) where
       others : ℕ
       others = inAll n (without s (2 ^ low)) row
 
-  -- and ends where none is left
+  -- and ends when none is left
   pub all-end : (all s : ℕ) → all < 2 ^ n → s ≡ 0 → bitAnd all (inAll n s row) ≡ all
   all-end all s h e =
       ap (λ (t : ℕ). bitAnd all (inAll n t row)) e
@@ -141,7 +141,7 @@ module _ (n : ℕ) (row : ℕ → ℕ) where
       whole : all ⊆ inAll n 0 row
       whole = in-part all (inAll n 0 row) (λ y m. all-in 0 y (member-below all n y h m) (λ x l k. absurd (omega (arith, bit-empty x))))
 
-  -- a set lies in all these rows exactly where it lies in what they share
+  -- a set lies in all these rows exactly if it lies in what they share
   pub all-part : (s g : ℕ) → g < 2 ^ n → part g (inAll n s row) ≡ everyTo n (λ x. not (member s x) || part g (row x))
   all-part s g h = same-true (part g (inAll n s row)) (everyTo n (λ x. not (member s x) || part g (row x))) each shared
     where
@@ -155,7 +155,7 @@ module _ (n : ℕ) (row : ℕ → ℕ) where
 
 -- ---- the facts that one is mutex with
 
--- what a leaves of m shares nothing with t exactly where all of t in m lies in a
+-- what a leaves of m shares nothing with t exactly if all of t in m lies in a
 outside : (m a t : ℕ) → not (meets (without m a) t) ≡ part (bitAnd t m) a
 outside m a t = same-true (not (meets (without m a) t)) (part (bitAnd t m) a) there back
   where
@@ -183,7 +183,7 @@ row-bit true false true false true h = omega arith
 row-bit true false false false true h = absurd (false≢true (h refl refl))
 
 -- The row of p as the code makes it. Near are the facts that vertices against p give, shared those that givers of p give, and likely the other
--- facts that are near and not shared. Of these the row has those that no free vertex gives, a member that is not against p.
+-- facts that are near and not shared. Of these the row has those that no free vertex gives: no member that is not against p.
 module _ (w members facts p : ℕ) (gives words turned : List ℕ) (fits : members < 2 ^ (w + w)) (around : turned ≡ transposed (w + w) gives)
     (known : facts ≡ gathered (w + w) members (λ x. getD gives x 0)) where
   abbrev G : ℕ → ℕ
@@ -258,7 +258,7 @@ module _ (w members facts p : ℕ) (gives words turned : List ℕ) (fits : membe
 
 -- ---- a loop that fills the first words of an array
 
--- the words below i are made, and 0 stands behind them
+-- the words below i are made, and those after them are 0
 pub filled-padded : (w : ℕ) (f : ℕ → ℕ) (rows : List ℕ) (i n : ℕ) → Filled w f rows i → ((k : ℕ) → i ≤ k → getD rows k 0 ≡ 0) → i ≡ n → rows ≡ padded w (listTo n f)
 filled-padded w f rows i n (size, held) past e =
     filled-end w (λ k. getD (listTo i f) k 0) rows w (size, λ k l. go k (decLt k i)) refl ∙ ap (λ (m : ℕ). padded w (listTo m f)) e

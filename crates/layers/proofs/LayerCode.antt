@@ -21,7 +21,7 @@ use Rattle.planning.proofs.WordLaws.{words-length}
 
 -- ---- vertices
 
--- a table of vertices has the word of every vertex, where no step past the last has one
+-- a table of vertices has the word of every vertex, if no step past the last has one
 vertex-at : (w : ℕ) (kept : Bool) (steps : List ℕ) → ((a : ℕ) → w ≤ a → getD steps a 0 ≡ 0) → (x : ℕ) → getD (listTo (w + w) (vertexWords w kept steps)) x 0 ≡ vertexWords w kept steps x
 vertex-at w kept steps none x = go (decLt x (w + w))
   where

@@ -1,5 +1,5 @@
--- Round layers as the code makes them: the vertices that stand one by one, the mutex words by operations on sets. There is room for w facts and w
--- steps. Assumes nothing.
+-- Round layers as the code makes them: their vertices one by one, the mutex words by operations on sets. There is room for w facts and w steps.
+-- Assumes nothing.
 use mathlib.Core.Path.{_≡_, sym, ap, ap₂, _∙_}
 use mathlib.Core.Logic.{_≢_}
 use mathlib.Core.Bool.{Bool, true, false, not, _&&_, _||_, cond, Bool·not-not}
@@ -33,7 +33,7 @@ vertex-step w x kept steps l = sym (ap (λ (t : Bool). cond t (given kept (2 ^ x
 
 -- ---- what the members of a set have together
 
--- where no member is at or above n, the rows from n on do not count
+-- if no member is at or above n, the rows from n on do not count
 pub gathered-room : (n m s : ℕ) (f : ℕ → ℕ) → n ≤ m → s < 2 ^ n → gathered m s f ≡ gathered n s f
 gathered-room n m s f l h = ext (gathered m s f) (gathered n s f) (λ i. omega (arith, gathered-part m n s f h i, gathered-part n m s f (omega (arith, pow-mono l)) i))
 
@@ -51,7 +51,7 @@ module _ (w : ℕ) (S : Steps) (L : Layer) (x : ℕ) where
   stands-lacks r e d =
       sym (ap (λ (t : Bool). t && not (meets (opposed w L (S .needs x)) (S .needs x))) (ne-eqb (without (S .needs x) (L .members)) 0 (λ q. d (e ∙ q))))
 
-  -- none is missing: it stands where no need is opposed
+  -- none is missing: it stands if no need is opposed
   pub stands-there : (r g : ℕ) → r ≡ without (S .needs x) (L .members) → r ≡ 0 → g ≡ opposed w L (S .needs x) → eqb (bitAnd g (S .needs x)) 0 ≡ stands w S L x
   unfolding stands part meets
   stands-there r g e z eg =
@@ -105,7 +105,7 @@ pub word-there : (n m : ℕ) (test : ℕ → ℕ → Bool) (x b r : ℕ) → b �
 word-there n m test x b r e d er =
     er ∙ sym (given-yes (member m x) (setOf n (mutexWith m test x)) (member-yes m x (omega (arith, bit-le m x))))
 
--- The layer in two parts. Which vertices stand depends on their needs alone, and their words on the facts' words alone, so the code hands on
+-- The layer in two parts. Which vertices are in it depends on their needs alone, and their words on the facts' words alone, so the code hands on
 -- no more than that.
 pub round-made : (w : ℕ) (needs gives takes : List ℕ) (top facts m : ℕ) (words mutex : List ℕ) → m ≡ standing w (listedSteps needs [] []) top (layer facts words)
     → mutex ≡ mutexes (w + w) m (rivals w (listedSteps needs gives takes) (layer 0 words))

@@ -33,7 +33,7 @@ bit-less s x y = bit-without s (2 ^ x) y ∙ ap₂ _-_ (sym (num-member s y)) (g
     go (yes q) = ap (bit (2 ^ x)) (sym q) ∙ bit-one x ∙ sym (same-yes x y q)
     go (no d) = bit-other x y (λ q. d (sym q)) ∙ sym (same-no x y d)
 
--- y is gathered from s exactly where s meets t, if t has those members of s whose row has y
+-- let t have those members of s whose row has y: then y is gathered from s exactly if s meets t
 pub gathered-meets : (w s t y : ℕ) (f : ℕ → ℕ) → ((i : ℕ) → i < w → i ∈ s → bit (f i) y ≡ bit t i) → ((i : ℕ) → i ∈ s → i ∈ t → i < w)
     → member (gathered w s f) y ≡ meets s t
 gathered-meets w s t y f same few = same-false (member (gathered w s f) y) (meets s t) there back

@@ -73,7 +73,7 @@ fn row(
     ungiven(turned, free, likely)
 }
 
-// The words of the 32 facts; 0 behind them.
+// The words of the 32 facts; 0 after them.
 pub fn words(
     gives: &[u64; 64],
     turned: &[u64; 64],

@@ -1,5 +1,5 @@
-// A round layer: the vertices that stand, and which of them are mutex. The needs are facts, so they
-// are below 2 ^ 32, and of the facts' words only the first 32 count.
+// A round layer: its vertices, and which of them are mutex. The needs are facts, so they are below
+// 2 ^ 32, and of the facts' words only the first 32 count.
 ghost use mathlib.Core.Path.{_≡_};
 ghost use mathlib.Core.List.{List, []};
 ghost use Prim.Native.Nat.{ℕ, _+_, _^_, _≤_, _<_};

@@ -30,7 +30,7 @@ module _ (j : ℕ) (row old : List ℕ) (wide : length row ≡ 64) (room : 64 * 
   same-many : length (paste old (64 * j) row 64) ≡ length old
   same-many = length-paste old (64 * j) row 64 room (omega arith)
 
-  -- then the row stands in its place, since what comes before it has the length it should
+  -- then the row is in its place, since what comes before it has the right length
   here : rowOf (paste old (64 * j) row 64) j ≡ row
   unfolding rowOf
   here =
@@ -49,7 +49,7 @@ module _ (j : ℕ) (row old : List ℕ) (wide : length row ≡ 64) (room : 64 * 
 
 -- ---- all layers
 
--- before the first turn no layer stands in the tables
+-- before the first turn no layer is in the tables
 pub laid-none : (F : Fitting) → Laid F 0 (replicate 16 0) (replicate 1024 0)
 laid-none F = record {
   few = length-replicate {A = ℕ} 16 0;
@@ -58,7 +58,7 @@ laid-none F = record {
   rows = λ i l. absurd (omega arith);
 }
 
--- a turn adds its own layer, and those below it stand where they stood
+-- a turn adds its own layer, and those below it stay in their places
 pub laid-turn : (F : Fitting) (j m : ℕ) (row members words new : List ℕ) → j < 16 → Laid F j members words → layer m row ≡ roundAfter F j → new ≡ paste words (64 * j) row 64
     → Laid F (j + 1) (set members j m) new
 laid-turn F j m row members words new room L e p = record {
@@ -79,6 +79,6 @@ laid-turn F j m row members words new room L e p = record {
     fits : 64 * j + 64 ≤ length words
     fits = omega (arith, L .many)
 
--- after the last turn all layers stand there
+-- after the last turn all layers are there
 pub laid-end : (F : Fitting) (j h : ℕ) (members words : List ℕ) → j ≡ h → Laid F j members words → Laid F h members words
 laid-end F j h members words e L = subst (λ (n : ℕ). Laid F n members words) e L

@@ -18,7 +18,7 @@ pub record Layered (F : Fitting) (h : ℕ) (members words : List ℕ) : Type 0 w
   pub rows : (j : ℕ) → j < h → rowOf words j ≡ roundAfter F j .words
   pub long : 64 * h ≤ length words
 
--- the words of layers 1 to h stand in front
+-- the words of layers 1 to h are in front
 pub record Laid (F : Fitting) (h : ℕ) (members words : List ℕ) : Type 0 where
   pub few : length members ≡ 16
   pub many : length words ≡ 1024

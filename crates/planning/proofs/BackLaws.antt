@@ -1,4 +1,4 @@
--- Working back, in both directions: a goal is reached in k + 1 rounds exactly where round layer k + 1 has a selection for it whose needs
+-- Working back, in both directions: a goal is reached in k + 1 rounds exactly if round layer k + 1 has a selection for it whose needs
 -- are reached in k rounds. Assumes nothing.
 use mathlib.Core.Path.{_≡_, refl, sym, ap, _∙_, subst}
 use mathlib.Core.Logic.{_⊎_, inl, inr, _↔_}
@@ -48,7 +48,7 @@ module _ (w : ℕ) (F : Fitting) where
       (λ i e. let (v, l, m, n) = gathered-from (w + w) (vertices w F .needs) x i e in part-in (vertices w F .needs v) s (h v m) i n)
 
 module _ (w : ℕ) (F : Fitting) (ok : Sized w F) where
-  -- where they stand, it lies in the fact layer below
+  -- if they are in a round layer, it lies in the fact layer below
   pub needed-within : (L : Layer) (x : ℕ) → x ⊆ roundOver w (vertices w F) (w + F .count) L .members → needed w F x ⊆ L .members
   unfolding roundOver
   needed-within L x h = needed-in w F x (L .members) (λ v e. in-standing w F L v (part-in x (standing w (vertices w F) (w + F .count) L) h v e) .1)

@@ -41,7 +41,7 @@ module _ (w : ℕ) (F : Fitting) where
       let (u, l, a, b) = gathered-from w (λ i. getD (L .words) i 0) m i e in
       omega (arith, b, holds .1 u i (part-in m s hm u a) (part-in n s hn i f)))
 
-  -- so a vertex whose needs hold stands
+  -- so a vertex whose needs hold is in the round layer
   pub ready-stands : (L : Layer) (s x : ℕ) → Holds L s → x < w + F .count → vertices w F .needs x ⊆ s → x ∈ standing w (vertices w F) (w + F .count) L
   ready-stands L s x holds l h =
       let n = vertices w F .needs x in
@@ -97,7 +97,7 @@ module _ (w : ℕ) (F : Fitting) (s r : ℕ) (round : Round F s r) where
       go (inl (a, z)) = let l = member-below s w p h a in (p, inl (l, a, z), gives-own w F p l)
       go (inr (a, l, m, b)) = (w + a, inr (a, refl, m), ap (λ (x : ℕ). bit x p) (step-gives w F a) ∙ b)
 
-  -- where the facts hold in a layer, these vertices stand over it, and no two of them are mutex
+  -- if the facts hold in a fact layer, these vertices are in the round layer over it, and no two of them are mutex
   module _ (L : Layer) (holds : Holds L s) where
     pub vertex-stands : (x : ℕ) → Used w F s r x → x ∈ standing w (vertices w F) (w + F .count) L
     vertex-stands x u = ready-stands w F L s x holds (used-below x u) (used-ready x u)

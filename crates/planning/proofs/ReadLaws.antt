@@ -46,7 +46,7 @@ sized-stated job ok = record {
 
 -- ---- the fitting that the code has
 
--- it is that of the job: zeros behind the steps change nothing, nor does what names are taken for
+-- it is that of the job: zeros after the steps change nothing, nor does what names are taken for
 fitting-same : (f : List ℕ) (job : Job Spot) (end : ℕ) → Few 32 (got job end) → fittingIn (fittingRead (got job end)) ≡ fittingOf (jobBy f job)
 fitting-same f job end few = λ i. record {
   count = size job;
@@ -62,7 +62,7 @@ fitting-same f job end few = λ i. record {
         padded-at 64 (column k (job .records)) (omega (arith, column-length k (job .records), few .0, few .1)) a
         ∙ ap (λ (l : List ℕ). getD l a 0) (sym (column-by f k (job .records)))
 
--- where nothing was read there is no step and no fact
+-- if nothing was read, there is no step and no fact
 sized-none : (reason : Reason) (place : ℕ) → Sized 32 (fittingIn (fittingRead (refused reason place)))
 sized-none reason place = record {
   few = zero-le;

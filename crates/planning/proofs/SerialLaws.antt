@@ -124,6 +124,6 @@ module _ (F : Fitting) (S : ℕ → Type 0) (closed : (s a : ℕ) → S s → a 
   closed-rounds s [] v h = h
   closed-rounds s (r ∷ rs) (a, v) h = closed-rounds (after F s r) rs v (closed-round s r a h)
 
-  -- where the start is one of them and none has the goal, there is no plan of any length
+  -- if the start is one of them and none has the goal, there is no plan of any length
   pub closed-hopeless : S (F .start) → ((s : ℕ) → S s → F .goal ⊆ s → ⊥) → (rs : List ℕ) → Plan F rs → ⊥
   closed-hopeless start none rs p = none (run F (F .start) rs) (closed-rounds (F .start) rs (p .rounds) start) (p .reached)

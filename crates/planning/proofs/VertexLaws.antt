@@ -1,4 +1,4 @@
--- The vertices of a round layer: keepers and steps, and those of them that stand. Assumes nothing.
+-- The vertices of a round layer: keepers and steps, and which of them stand. Assumes nothing.
 use mathlib.Core.Path.{_≡_, sym, ap, _∙_}
 use mathlib.Core.Logic.{_⊎_, inl, inr}
 use mathlib.Core.Bool.{false, not}

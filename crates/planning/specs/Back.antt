@@ -9,7 +9,7 @@ use Rattle.network.specs.Network.{Network, Cover}
 use Rattle.planning.specs.Rounds.{Fitting, run, Rounds}
 use Rattle.planning.specs.Layers.{Layer, vertices}
 
--- its vertices carry what they give, and clash where they are mutex
+-- its vertices carry what they give, and clash if they are mutex
 abbrev pub layerNetwork : ℕ → Fitting → Layer → Network
 layerNetwork w F R = record { articles = w + w; wishes = vertices w F .gives; clashes = λ x. getD (R .words) x 0 }
 

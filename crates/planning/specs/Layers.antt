@@ -77,6 +77,6 @@ unfoldable pub factLayer : ℕ → Fitting → ℕ → Layer
 factLayer w F zero = record { members = F .start; words = listTo w (λ p. 0) }
 factLayer w F (suc k) = factsOver w (vertices w F) (roundOver w (vertices w F) (w + F .count) (factLayer w F k))
 
--- round layer k, for k from 1 on, stands over fact layer k - 1
+-- round layer k, for k from 1 on, is the one over fact layer k - 1
 abbrev pub roundLayer : ℕ → Fitting → ℕ → Layer
 roundLayer w F k = roundOver w (vertices w F) (w + F .count) (factLayer w F (k - 1))

@@ -25,7 +25,7 @@ grown-on g h = record {
   same = λ j l. h .same j (le-trans l (g .more)) ∙ g .same j l;
 }
 
--- one state more, behind the others
+-- one state more, after the others
 pub grown-one : (l : List ℕ) (n s : ℕ) → n < length l → Grown l (set l n s) n (n + 1) × Among (set l n s) (n + 1) s
 grown-one l n s h = (
   record {
@@ -53,7 +53,7 @@ settled-grown {old = old} {new = new} {n = n} {r = r} g F m l (lacks, leads) =
     subst (λ (s : ℕ). (F .goal ⊆ s → ⊥) × ((a : ℕ) → a < F .count → Leads (F .steps) new r s a)) (sym (g .same m l))
     (lacks, λ a k. leads-grown g (F .steps) (getD old m 0) a (leads a k))
 
--- where all of them are, no plan exists
+-- if all of them are, no plan exists
 pub settled-hopeless : (F : Fitting) (states : List ℕ) (n : ℕ) → Among states n (F .start) → ((m : ℕ) → m < n → Settled F states n m) → (rs : List ℕ) → Plan F rs → ⊥
 settled-hopeless F states n start all = closed-hopeless F (Among states n) closed start lacks
   where

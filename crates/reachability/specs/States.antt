@@ -20,23 +20,23 @@ Hopeless F false = Unit {0}
 abbrev pub Among : List ℕ → ℕ → ℕ → Type 0
 Among states n s = (j : ℕ) × (j < n) × (getD states j 0 ≡ s)
 
--- where step a can be made after the facts s, it leads to one of the first n states
+-- if step a can be made after the facts s, it leads to one of the first n states
 abbrev pub Leads : Steps → List ℕ → ℕ → ℕ → ℕ → Type 0
 Leads S states n s a = S .needs a ⊆ s → Among states n (bitOr (without s (S .takes a)) (S .gives a))
 
--- s is one of the first n states; or a slot of so many is free for it; or nothing is said
+-- s is one of the first n states; or one of `size` slots is free for it; or nothing is said
 abbrev pub Placed : List ℕ → ℕ → ℕ → ℕ → Place → Type 0
 Placed states size n s Place.Known = Among states n s
 Placed states size n s (Place.Free at) = at < size
 Placed states size n s Place.Crowded = Unit {0}
 
--- the first n states have become the first r: they keep, and there is room for those behind them
+-- the first n states have become the first r: they stay as they were, and there is room for those after them
 pub record Grown (old new : List ℕ) (n r : ℕ) : Type 0 where
   pub more : n ≤ r
   pub room : r ≤ length new
   pub same : (j : ℕ) → j < n → getD new j 0 ≡ getD old j 0
 
--- ---- what the functions give: the count of states r, where 0 says that there was no room, and nothing else
+-- ---- what the functions give: the count of states r; 0 says that there was no room, and nothing else
 
 -- s is listed
 abbrev pub Entered : List ℕ → List ℕ → ℕ → ℕ → ℕ → Type 0

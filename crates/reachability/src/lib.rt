@@ -1,4 +1,4 @@
-// What none of the states holds that steps lead to, no plan reaches. A state is a set of facts. The
+// Steps lead to states, which are sets of facts. What none of these states holds, no plan reaches. The
 // states are listed one after the other, each with what its steps lead to, as long as there is room.
 ghost use mathlib.Core.Path.{_≡_};
 ghost use mathlib.Core.Logic.{_≢_};

@@ -4,7 +4,7 @@ ghost use Prim.Native.Nat.{_<_};
 ghost use lib.ListN.{length};
 use jobfile::Verdict;
 
-// One more file for a reason; 0 stands for accepted.
+// One more file for a reason; 0 means accepted.
 fn add(tally: &mut [u64; 9], reason: usize) {
     if reason < 9 {
         tally[reason] = std::num::wrapping_add_u64(tally[reason], 1);

@@ -1,6 +1,6 @@
 // Shows what the planner answers: the examples of the rules, jobs at their edges, and puzzles. Which of
 // the shortest plans comes back is free. So a plan is tried by the rules, and its rounds are printed
-// only where no other plan is as short. reference/plans.py prints the same text from a search of its
+// only if no other plan is as short. reference/plans.py prints the same text from a search of its
 // own.
 ghost use Prim.Native.Nat.{_≤_};
 use calls::PlanAnswer;
@@ -56,7 +56,7 @@ fn say_rounds(words: &[u32; 16], l: usize) {
     }
 }
 
-// What the planner answers where so many words are lent.
+// What the planner answers if `lent` words are lent.
 fn show_with(label: &[u8], job: Job, lent: usize, in_full: bool)
     requires { ⌜ lent ≤ 16 ⌝ }
 {

@@ -6,7 +6,7 @@ pub fn say(text: &[u8]) {
     io::write_all(STDOUT_FILENO, text);
 }
 
-// A text, and a number behind it.
+// A text, and a number after it.
 pub fn say_number(text: &[u8], x: u64) {
     say(text);
     io::print_decimal(STDOUT_FILENO, x);

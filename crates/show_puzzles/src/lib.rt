@@ -139,7 +139,7 @@ fn next_lamp(j: usize) -> usize
     j + 1
 }
 
-// Lamp j is lit, or dark where `dark` is 1.
+// Lamp j is lit, or dark if `dark` is 1.
 fn lamp(j: usize, dark: usize) -> u64
     requires { ⌜ (j < 16) × (dark < 2) ⌝ }
 {
@@ -201,7 +201,7 @@ pub fn tower(n: usize, horizon: u8) -> Job
     stepped(bare, Puzzle::Tower, 6 * n)
 }
 
-// A Chinese puzzle of so many rings, from some that are on to others.
+// A Chinese puzzle of n rings, from some that are on to others.
 pub fn chinese(n: usize, on: u64, goal: u64) -> Job
     requires { ⌜ n ≤ 16 ⌝ }
 {

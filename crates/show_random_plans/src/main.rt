@@ -50,7 +50,7 @@ fn drawn_step(seed: u64, fact: u64, facts: u64) -> DrawnStep
     }
 }
 
-// The job with so many drawn steps, from fact 0 on.
+// The job with `steps` drawn steps, from fact 0 on.
 fn with_steps(bare: Job, seed: u64, steps: u64, facts: u64) -> DrawnJob
     requires { ⌜ (0 < facts) × (facts < 8) ⌝ }
 {
@@ -81,7 +81,7 @@ fn drawn_job(seed: u64) -> DrawnJob {
     with_steps(bare, goal.x, 4 + draw::below(a, 3), facts)
 }
 
-// One more job for a count of rounds; 6 stands for a refusal.
+// One more job for a count of rounds; 6 means a refusal.
 fn add(tally: &mut [u64; 7], count: usize) {
     if count < 7 {
         tally[count] = std::num::wrapping_add_u64(tally[count], 1);

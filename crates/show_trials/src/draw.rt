@@ -23,7 +23,7 @@ pub struct Draw {
     pub x: u64,
 }
 
-// A set by so many draws from the facts below n; one may be drawn twice.
+// A set by `count` draws from the facts below n; one may be drawn twice.
 pub fn take(x: u64, count: u64, n: u64) -> Draw
     requires { ⌜ (0 < n) × (n ≤ 64) ⌝ }
 {
@@ -41,7 +41,7 @@ pub fn take(x: u64, count: u64, n: u64) -> Draw
     d
 }
 
-// A set by as many draws as are drawn first, from `least` on, one of `choices` counts.
+// A set by a count of draws that is drawn first: one of `choices` counts, from `least` on.
 pub fn some(x: u64, least: u64, choices: u64, n: u64) -> Draw
     requires { ⌜ (least < 64) × (0 < choices) × (choices < 64) × (0 < n) × (n ≤ 64) ⌝ }
 {

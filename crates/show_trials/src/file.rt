@@ -18,7 +18,7 @@ fn set(bytes: &mut [u8; 428], at: usize, s: u64)
     bytes[at + 3] = (s / 16777216 % 256) as u8;
 }
 
-// The bit of a field that stands.
+// The bit of a field, if the field is there; else 0.
 fn mark(s: u64, bit: u8) -> u8 {
     if s == 0 {
         return 0;
@@ -26,7 +26,7 @@ fn mark(s: u64, bit: u8) -> u8 {
     bit
 }
 
-// A field stands where its set has members. The place behind it.
+// A field is there if its set has members. The place after it.
 fn field(bytes: &mut [u8; 428], at: usize, s: u64) -> usize
     requires { ⌜ at + 4 ≤ 428 ⌝ }
     ensures { λ r. ⌜ r ≤ at + 4 ⌝ }
@@ -38,7 +38,7 @@ fn field(bytes: &mut [u8; 428], at: usize, s: u64) -> usize
     at + 4
 }
 
-// The record of a step. The place behind it.
+// The record of a step. The place after it.
 fn record(bytes: &mut [u8; 428], at: usize, needs: u64, gives: u64, takes: u64) -> usize
     requires { ⌜ at + 13 ≤ 428 ⌝ }
     ensures { λ r. ⌜ r ≤ at + 13 ⌝ }

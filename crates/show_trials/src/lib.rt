@@ -26,7 +26,7 @@ impl Step {
     }
 }
 
-// A fitting. The arrays have an element for each step, and 0 behind the last.
+// A fitting. The arrays have an element for each step, and 0 after the last.
 pub struct Job {
     pub steps: u8,
     pub facts: u8,

@@ -118,7 +118,7 @@ asked N allowed need h e =
     go (some x) s = s .holds
     go none s = λ y c. s y c zero-le
 
--- where the test says that there is none, there is none
+-- if the test says that there is none, there is none
 pub coverable-none : (N : Network) (allowed need : ℕ) → allowed < 2 ^ N .articles → false ≡ isSome (smallest N allowed need 0) → (x : ℕ) → Cover N allowed need x → ⊥
 coverable-none N allowed need h e = go (smallest N allowed need 0) (smallest-right N allowed need 0 h) e
   where

@@ -2,7 +2,7 @@
 -- a call is for one round less, in the whole box, or for the same round, in the box less one of its facts; that of dropped facts lies between
 -- the boxes of its round and those of the next. The invariant of the loop: plan and table
 -- keep their lengths, the table is right, and whatever selection of the box can be worked back needs all facts that have been left out in their turn
--- (`Turning`). The measure of the loop is the number of the facts whose turn is still to come.
+-- (`Turning`). The measure of the loop is the number of the set of facts whose turn is still to come.
 use borrow.Author.Needs.{needs}
 use mathlib.Core.Path.{_≡_, refl, sym, subst}
 use mathlib.Core.Logic.{_≢_}
@@ -253,7 +253,7 @@ abbrev extract-μ-loop : extract-lts.MeasureT-loop
 extract-μ-loop needs gives carriers members words start plan₀ table₀ k goal may must why first j «open» selection wanted before refuted c left₀ kept₀ reason₀ plan table left kept reason =
     left
 
--- ---- what the answers share: the graph, places that a later place has behind it, and what is known there
+-- ---- what the answers share: the graph, places that come before a later place, and what is known there
 
 abbrev graphOf : (t : ℕ) → extract-lts.Start (extract-calls t) (extract-at t) extract.Post extract-Inv-loop extract-μ-loop → Graph
 graphOf t s = let a = s .args in graph (now (a .needs)) (now (a .gives)) (now (a .members)) (now (a .words)) (a .start)

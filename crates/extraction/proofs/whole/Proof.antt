@@ -1,4 +1,4 @@
--- `extraction::whole` meets its contract: the second test decides where the first holds.
+-- `extraction::whole` meets its contract: if the first test holds, the second decides.
 use Rattle.extraction.specs.Extraction.{allFacts}
 use Rattle.extraction.proofs.NogoodLaws.{whole-not, whole-if}
 use Rattle.extraction.proofs.whole.Statement.{statement}

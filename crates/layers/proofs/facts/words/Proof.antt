@@ -1,5 +1,5 @@
--- `layers::facts::words` meets its contract. The invariant: the words of the facts below p are made, and 0 stands behind them. The measure is how many
--- facts are left.
+-- `layers::facts::words` meets its contract. The invariant: the words of the facts below p are made, and those after them are 0. The measure is how
+-- many facts are left.
 use borrow.Author.Needs.{needs}
 use mathlib.Core.Path.{_≡_, _∙_}
 use mathlib.Core.List.{List, []}

@@ -1,5 +1,5 @@
 -- `planner::search::shortest` meets its contract. The invariant: the arrays keep their lengths, the caller's words are as they were, the nogoods are
--- right, no count of rounds below k does, and the tables are those of the fitting. The measure is how many counts are left.
+-- right, no count of rounds below k works the goal back, and the tables are those of the fitting. The measure is how many counts are left.
 use borrow.Author.Needs.{needs}
 use mathlib.Core.Path.{_≡_, refl, ap, subst, _∙_}
 use Prim.Native.Nat.{ℕ, _+_, _-_, _≤_, _<_}
