@@ -271,7 +271,7 @@ def chain(draw, length, horizon):
 
 
 def readme_command():
-    """The README's first command, and its part after the build."""
+    """Of the README's first command the part after the build."""
     blocks = re.findall(r"^```\n(.*?)^```$", (ROOT / "README.md").read_text(), re.M | re.S)
     found = [block.strip() for block in blocks if block.startswith("rt check kitchen")]
     check(len(found) == 1, f"README.md has the command once: {found}")

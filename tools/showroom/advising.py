@@ -26,7 +26,7 @@ Articles = namedtuple("Articles", "every none some")
 Conflict = namedtuple("Conflict", "uncarried part rests")
 Rest = namedtuple("Rest", "wish kitchen enough")
 # If there is no plan: goal facts that do not hold at the start and that nothing gives; the rounds of a shortest plan, 0 if
-# it would have more than a file can state, and None if that was not answered in time.
+# there is none within the longest horizon that a file can state, and None if that was not answered in time.
 Horizon = namedtuple("Horizon", "ungiven rounds")
 
 

@@ -115,7 +115,7 @@ def owner(reader, item):
 
 
 def holding(reader, item):
-    """What the bytes of an item say; nothing if they are not all there."""
+    """What the bytes of an item say, or that they are not all there."""
     data = reader.file[item.place : item.place + item.width]
     if len(data) < item.width:
         have = "the file has none of them" if not data else f"the file has only {len(data)} of them"

@@ -151,7 +151,7 @@ module _ (N : Network) (order : ℕ) where
 
 -- ---- the records of a changed job
 
--- a record without wishes has no first set, and its second as it was
+-- a record without wishes has the empty set for its first, and its second as it was
 first-emptied : {N : Type 0} (b : Bool) (r : Record N) → getD (cond b (wishless r) r .before) 0 0 ≡ given (not b) (getD (r .before) 0 0)
 first-emptied true r = refl
 first-emptied false r = refl

@@ -1,5 +1,5 @@
 -- The one table of the examples that docs/RULES.md marks with a star, and of others: what the open calls answer, from the bytes of the files, by the
--- numbers of the rules. A must-fail edit names the row whose right answer its wrong program does not give.
+-- numbers of the rules. A must-fail edit of an open call names the row whose right answer its wrong program does not give.
 use mathlib.Core.Path.{_≡_}
 use mathlib.Core.Bool.{Bool, true, false}
 use mathlib.Core.List.{List, [], _∷_, _++_}

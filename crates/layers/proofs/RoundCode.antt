@@ -105,8 +105,8 @@ pub word-there : (n m : ℕ) (test : ℕ → ℕ → Bool) (x b r : ℕ) → b �
 word-there n m test x b r e d er =
     er ∙ sym (given-yes (member m x) (setOf n (mutexWith m test x)) (member-yes m x (omega (arith, bit-le m x))))
 
--- The layer in two parts. Which vertices are in it depends on their needs alone, and their words on the facts' words alone, so the code hands on
--- no more than that.
+-- The layer in two parts. Of the steps, only what they need tells which vertices are in it; of the fact layer, only its words tell the mutex words. So
+-- the code hands on no more than that.
 pub round-made : (w : ℕ) (needs gives takes : List ℕ) (top facts m : ℕ) (words mutex : List ℕ) → m ≡ standing w (listedSteps needs [] []) top (layer facts words)
     → mutex ≡ mutexes (w + w) m (rivals w (listedSteps needs gives takes) (layer 0 words))
     → layer m mutex ≡ roundOver w (listedSteps needs gives takes) top (layer facts words)

@@ -25,6 +25,6 @@ pub record Laid (F : Fitting) (h : ℕ) (members words : List ℕ) : Type 0 wher
   pub vertices : (j : ℕ) → j < h → getD members j 0 ≡ roundAfter F j .members
   pub rows : (j : ℕ) → j < h → rowOf words j ≡ roundAfter F j .words
 
--- the words 0 to k - 1 are copied, and the others keep
+-- the words 0 to k - 1 are copied, and the others stay as they are
 abbrev pub Copied : ℕ → List ℕ → List ℕ → List ℕ → Type 0
 Copied k words old new = ((i : ℕ) → i < k → getD new i 0 ≡ getD words i 0) × (drop k new ≡ drop k old)

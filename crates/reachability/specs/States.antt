@@ -24,7 +24,7 @@ Among states n s = (j : ℕ) × (j < n) × (getD states j 0 ≡ s)
 abbrev pub Leads : Steps → List ℕ → ℕ → ℕ → ℕ → Type 0
 Leads S states n s a = S .needs a ⊆ s → Among states n (bitOr (without s (S .takes a)) (S .gives a))
 
--- s is one of the first n states; or one of `size` slots is free for it; or nothing is said
+-- s is one of the first n states; or it may be entered at a slot, one of `size`; or nothing is said
 abbrev pub Placed : List ℕ → ℕ → ℕ → ℕ → Place → Type 0
 Placed states size n s Place.Known = Among states n s
 Placed states size n s (Place.Free at) = at < size

@@ -201,7 +201,7 @@ pub fn tower(n: usize, horizon: u8) -> Job
     stepped(bare, Puzzle::Tower, 6 * n)
 }
 
-// A Chinese puzzle of n rings, from some that are on to others.
+// A Chinese puzzle of n rings: `on` has the facts at the start, `goal` those that are wanted.
 pub fn chinese(n: usize, on: u64, goal: u64) -> Job
     requires { ⌜ n ≤ 16 ⌝ }
 {
