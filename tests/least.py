@@ -26,7 +26,7 @@ CHECKS = {
     "layout": 412,
     "nothing_foreign": THERE["crates"],
     "assumptions_as_stated": 1 + THERE["programs"],
-    "trace": 852,
+    "trace": 851,
     "promises": THERE["theorems of the demands"],
     "documents": 430,
     "second_program": 633,
