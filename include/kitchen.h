@@ -7,11 +7,11 @@
  *
  * which makes target/lib/libkitchen.a, an archive to link, and target/lib/libkitchen.so, a shared library for languages
  * that load one; its soname is libkitchen.so.2. `make install` puts both and this header where your system has such
- * things, and in the folder that `make dist` packs they stand in lib/.
+ * things, and in the folder that `make dist` packs both are in lib/.
  *
  * A program in C that chooses, from a job file on standard input, is built by
  * `cc -I include first.c target/lib/libkitchen.a -o first` and is tried by
- * `tools/job write jobs/kitchen.txt | ./first`. Its status is 3 where there is no such kitchen, and 1 where the file is
+ * `tools/job write jobs/kitchen.txt | ./first`. Its status is 3 if there is no such kitchen, and 1 if the file is
  * refused:
  *
  *     #include "kitchen.h"
@@ -64,8 +64,8 @@
  * of it.
  *
  * Arguments. A slice is a pointer and a length, in elements. The pointer of an empty slice may be null. Buffers must
- * not overlap each other, the file or `out`. A refusal writes to no buffer; elements behind those that an answer fills
- * keep what they held. Sets are numbers by their bits: bit i stands for member i. `groups` must have at least a byte
+ * not overlap each other, the file or `out`. A refusal writes to no buffer; elements after those that an answer fills
+ * keep what they held. Sets are numbers by their bits: bit i is 1 if i is a member. `groups` must have at least a byte
  * for each article of the file; KITCHEN_ARTICLES bytes always do, and more may be lent. No file that is in order is
  * longer than KITCHEN_LONGEST bytes. A program that reads one byte more of a file needs no more of it: a longer file is
  * refused, and by these bytes in the same way.
@@ -129,7 +129,7 @@ enum {
     KITCHEN_LONGEST = 3211          /* the greater of the two */
 };
 
-/* The number of the interface that was built: KITCHEN_VERSION, where the header belongs to the library. */
+/* The number of the interface that was built: KITCHEN_VERSION, if the header belongs to the library. */
 uint32_t kitchen_version(void);
 
 /* Our own partition: the group of each article, in its byte. Needs a byte for each article.
@@ -143,7 +143,7 @@ uint32_t kitchen_pass(const uint8_t *file, size_t file_len, const uint8_t *group
 
 /* The smallest selection at or above the floor, after a pass for each goal in turn. Smallest is its number, the sum of
  * 2^i over its articles i, and not the count of them: a selection without the last articles of the file goes before one
- * with them, so what should be preferred stands first. 14 is "no selection".
+ * with them, so what should be preferred comes first. 14 is "no selection".
  * out: the selection, the set aside */
 uint32_t kitchen_choose(const uint8_t *file, size_t file_len, const uint8_t *groups, size_t groups_len,
                         const uint64_t *goals, size_t goals_len, uint64_t floor, uint64_t out[2]);
@@ -163,7 +163,7 @@ uint32_t kitchen_round_layer(const uint8_t *file, size_t file_len, uint64_t laye
  * out: the count of rounds, 0 */
 uint32_t kitchen_plan(const uint8_t *file, size_t file_len, uint32_t *rounds, size_t rounds_len, uint64_t out[2]);
 
-/* Where the name of an article or step stands in the file. Returns 0 always.
+/* Where the name of an article or step is in the file. Returns 0 always.
  * out: its start, its length; 0, 0 if the file is refused, lacks that number, or has no name for it */
 uint32_t kitchen_name(const uint8_t *file, size_t file_len, uint64_t number, uint64_t out[2]);
 

@@ -1,3 +1,3 @@
--- The laws behind the tests of what is lent.
+-- The laws that the tests of what is lent rest on.
 pub mod TestLaws
 pub mod VerdictLaws

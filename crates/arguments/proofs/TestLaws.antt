@@ -1,5 +1,5 @@
--- What the verdict on tests tells a call: where it refuses, its refusal is the answer; where it accepts, the tests are passed and the answer is
--- what stands behind them. Assumes nothing.
+-- What the verdict on tests tells a call: if it refuses, its refusal is the answer; if it accepts, the tests are passed and the answer is what
+-- comes after them. Assumes nothing.
 use mathlib.Core.Path.{_≡_, refl, sym, ap, ap₂, _∙_}
 use mathlib.Core.Bool.{Bool, true, false, _||_}
 use mathlib.Core.List.{List, map-map}
@@ -41,9 +41,9 @@ pub through : {A : Type 0} (t : Answer (Unit {0})) {v : Verdict} (a : Answer A) 
 through (refusal reason place) a h k = let z : _≡_ {A = ℕ} 0 1 = cc in absurd (omega arith)
 through (value u) a h k = refl
 
--- ---- what is true where the tests are passed
+-- ---- what is true if the tests are passed
 
--- one test is passed, and so are those behind it
+-- one test is passed, and so are those after it
 unless-passed : (fault : Bool) (reason : Reason) (t : Answer (Unit {0})) {v : Verdict} → v ≡ verdictOf (unless fault reason t) → v ≡ Verdict.Accepted → (fault ≡ false) × (v ≡ verdictOf t)
 unless-passed true reason t h k = let z : _≡_ {A = ℕ} 0 1 = cc in absurd (omega arith)
 unless-passed false reason t h k = (refl, h)
@@ -72,7 +72,7 @@ goals-passed order goals h a = at-passed (firstBad order goals) BadGoal passed h
 
 -- ---- the network that the code has of a choice file
 
--- it is that of the job: zeros behind the articles are not looked at, nor is what names are taken for
+-- it is that of the job: zeros after the articles are not looked at, nor is what names are taken for
 pub network-same : (f : List ℕ) (job : Job Spot) (end : ℕ) → Few 64 (got job end) → networkIn (choiceRead (got job end)) ≡ networkOf (jobBy f job)
 network-same f job end few =
     let room : (k : ℕ) → length (column k (job .records)) ≤ 64 = λ k. omega (arith, length-map (job .records) (λ r. getD (r .before) k 0), few .0, few .1) in

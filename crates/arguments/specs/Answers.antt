@@ -14,12 +14,12 @@ pub data Answer (A : Type 0) : Type 0 where
   refusal : Reason → ℕ → Answer A
   value : A → Answer A
 
--- the call on the job of a file, where the file is accepted
+-- the call on the job of a file, if the file is accepted
 abbrev pub onJob : {A B : Type 0} → Got A → (A → Answer B) → Answer B
 onJob (refused reason place) call = refusal reason place
 onJob (got job end) call = call job
 
--- a test of an argument: where it fails, its reason at place 0
+-- a test of an argument: if it fails, its reason at place 0
 abbrev pub unless : {A : Type 0} → Bool → Reason → Answer A → Answer A
 unless true reason answer = refusal reason 0
 unless false reason answer = answer
@@ -29,7 +29,7 @@ abbrev pub unlessAt : {A : Type 0} → Option ℕ → Reason → Answer A → An
 unlessAt (some place) reason answer = refusal reason place
 unlessAt none reason answer = answer
 
--- several tests that stand together, and what is answered behind them
+-- several tests taken together, and what is answered after them
 abbrev pub passed : Answer (Unit {0})
 passed = value tt
 
@@ -69,7 +69,7 @@ pub record Left (A : Type 0) : Type 0 where
   pub answer : Said A
   pub buffer : List ℕ
 
--- the words that were made stand in front, and the later ones keep; a refusal writes nothing
+-- the words that were made are in front, and the later ones stay as they are; a refusal writes nothing
 abbrev pub leaving : {A B : Type 0} → (A → List ℕ) → (A → B) → List ℕ → Answer A → Left B
 leaving words told old (refusal reason place) = record { answer = said (refusal reason place); buffer = old }
 leaving words told old (value x) = record { answer = answered (told x); buffer = words x ++ drop (length (words x)) old }

@@ -10,7 +10,7 @@ use Rattle.network.specs.Groups.{firstMisplaced}
 use Rattle.filter.specs.Filter.{outside, badGoal, firstBad}
 use Rattle.arguments.specs.Answers.{Answer, unless, unlessAt, passed}
 
--- 10: a buffer of this length has so many elements at least
+-- 10: a buffer of this length has at least `size` elements
 abbrev pub roomTest : ℕ → ℕ → Answer (Unit {0})
 roomTest len size = unless (ltb len size) ShortBuffer passed
 

@@ -17,7 +17,7 @@ use network::lent;
 use network::lent::Lent;
 use reading::Reason;
 
-// Whether a buffer of this length has so many elements at least.
+// Whether a buffer of this length has at least `size` elements.
 pub fn room(len: usize, size: usize) -> Verdict
     ensures { λ r. ⌜ r ≡ verdictOf (roomTest len size) ⌝ }
 {

@@ -10,7 +10,7 @@ pub const FACT_WORDS: usize = 32;
 
 pub const VERTEX_WORDS: usize = 64;
 
-// The words of 32 facts. Later words keep.
+// The words of 32 facts. Later words stay as they are.
 pub fn facts(words: &mut [u32], mutex: &[u64; 64])
     requires { ⌜ (32 ≤ length (now words)) × ((i : ℕ) → i < 32 → getD (now mutex) i 0 < 2 ^ 32) ⌝ }
     ensures { λ r. ⌜ now (words .exit) ≡ paste (now (words .entry)) 0 (now (mutex .entry)) 32 ⌝ }
@@ -23,7 +23,7 @@ pub fn facts(words: &mut [u32], mutex: &[u64; 64])
     }
 }
 
-// The words of 64 vertices. Later words keep.
+// The words of 64 vertices. Later words stay as they are.
 pub fn vertices(words: &mut [u64], mutex: &[u64; 64])
     requires { ⌜ 64 ≤ length (now words) ⌝ }
     ensures { λ r. ⌜ now (words .exit) ≡ paste (now (words .entry)) 0 (now (mutex .entry)) 64 ⌝ }

@@ -69,7 +69,7 @@ refused-same f takes e = read-same f takes ∙ ap (mapGot (jobBy f)) e
 pub file-down : (f : List ℕ) (takes : ℕ → Bool) {v : Verdict} {r : Refusal} → v ≡ fileVerdict (read spots takes f) → v ≡ Verdict.Refused r → readJob takes f ≡ refused (r .reason) (r .place)
 file-down f takes p q = refused-same f takes (down (read spots takes f) (sym p ∙ q))
 
--- a reading as numbers: the number of the fault and its place, 0 where there is none; and 1 if the file is accepted
+-- a reading as numbers: the number of the fault and its place, 0 if there is none; and 1 if the file is accepted
 unfoldable pub faultIn : Got (Job Spot) → ℕ
 faultIn (refused reason place) = numberOf reason
 faultIn (got job end) = 0
@@ -87,7 +87,7 @@ unfolding faultIn placeIn takenIn
 by-numbers (refused reason place) reason′ place′ fault at t = ap₂ refused (sym (number-tells reason′ reason fault)) (sym at)
 by-numbers (got job end) reason′ place′ fault at t = absurd (omega arith)
 
--- the same where file g was read: its reading has the numbers of f
+-- the same if file g was read, and its reading has the numbers of f
 pub choice-down-as : (f g : List ℕ) {v : Verdict} {r : Refusal} → v ≡ choiceRead (read spots choices g) .verdict → v ≡ Verdict.Refused r
     → faultIn (read spots choices g) ≡ faultIn (read spots choices f) → placeIn (read spots choices g) ≡ placeIn (read spots choices f) → takenIn (read spots choices g) ≡ takenIn (read spots choices f)
     → readJob choices f ≡ refused (r .reason) (r .place)

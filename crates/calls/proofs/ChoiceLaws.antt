@@ -39,7 +39,7 @@ module _ (f old : List ℕ) where
   pub partition-down : {v : Verdict} {x : Refusal} → v ≡ choiceRead (read spots choices f) .verdict → v ≡ Verdict.Refused x → record { answer = refusalSaid x; buffer = old } ≡ partitionOf f old
   partition-down p q = ap left (job-down (λ job. partitionIn job old) (file-down f choices (p ∙ choice-verdict (read spots choices f)) q))
 
-  -- so many bytes were demanded
+  -- `size` bytes were demanded
   module _ (r : ReadChoice) (R : ChoiceRead f r) {v : Verdict} {size : ℕ} (room : v ≡ verdictOf (roomTest (length old) size)) (as-read : size ≡ r .articles) where
     e : v ≡ verdictOf (roomTest (length old) (r .articles))
     e = room ∙ ap (λ (n : ℕ). verdictOf (roomTest (length old) n)) as-read
@@ -53,7 +53,7 @@ module _ (f old : List ℕ) where
     pub partition-short : {x : Refusal} → v ≡ Verdict.Refused x → record { answer = refusalSaid x; buffer = old } ≡ partitionOf f old
     partition-short q = ap left (stopped (roomTest (length old) (r .articles)) (value (groupsTo (networkIn r) (r .articles))) e q ∙ on-file)
 
-    -- the code looks at clashes only; so many groups were made
+    -- the code looks at clashes only; the groups of `count` articles were made
     pub partition-made : {new : List ℕ} {count : ℕ} → v ≡ Verdict.Accepted → new ≡ groupsTo (listed 64 [] (r .clashes)) count ++ drop count old → count ≡ r .articles → record { answer = answered tt; buffer = new } ≡ partitionOf f old
     partition-made {new} q made all =
         let N = networkIn r in
@@ -69,7 +69,7 @@ module _ (f groups : List ℕ) (live goal : ℕ) where
   pass-down p q = ap said (job-down (λ job. passIn job groups live goal) (file-down f choices (p ∙ choice-verdict (read spots choices f)) q))
 
   module _ (r : ReadChoice) (R : ChoiceRead f r) {v : Verdict} (e : v ≡ verdictOf (groupsTest (networkIn r) groups)) where
-    -- over a network and an order: what is made, behind the tests
+    -- over a network and an order: what is made, after the tests
     abbrev made : Network → Answer ℕ
     made N = value (pass N (λ u. getD groups u 0) live goal)
 

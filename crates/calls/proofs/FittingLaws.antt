@@ -45,7 +45,7 @@ use Rattle.calls.proofs.CallLaws.{fitting-verdict, file-down, job-down,
 
 -- ---- the layers
 
--- a list in an array is what stands in front of it
+-- a list that is put into an array is the front of that array
 padded-front : (n size : ℕ) (l : List ℕ) → length l ≡ n → n ≤ size → take n (padded size l) ≡ l
 padded-front n size l e room =
     let len : length (padded size l) ≡ size = list-length size (λ i. getD l i 0) in
@@ -138,7 +138,7 @@ module _ (f old new : List ℕ) where
   pub plan-down : {v : Verdict} {x : Refusal} → v ≡ fittingRead (read spots fittings f) .verdict → v ≡ Verdict.Refused x → new ≡ old → Promised (refusalSaid x)
   plan-down {x = x} p q same = subst (by (refusalSaid x)) (sym (file-down f fittings (p ∙ fitting-verdict (read spots fittings f)) q)) (refl, same)
 
-  -- so many words were demanded
+  -- `size` words were demanded
   module _ (r : ReadFitting) (R : FittingRead f r) {v : Verdict} {size : ℕ} (room : v ≡ verdictOf (roomTest (length old) size)) (as-read : size ≡ r .horizon) where
     e : v ≡ verdictOf (roomTest (length old) (r .horizon))
     e = room ∙ ap (λ (n : ℕ). verdictOf (roomTest (length old) n)) as-read

@@ -35,7 +35,7 @@ use Rattle.calls.proofs.ToldLaws.{values, tested, test-said}
 
 -- ---- naming
 
--- the spot of record n, where that is the one asked for
+-- the spot of record n, if that is the one asked for
 pub spot-asked : (g : Got (Job Spot)) {s : Spot} {n asked : ℕ} → s ≡ spotIn g n → n ≡ asked → s ≡ spotIn g asked
 spot-asked g e same = e ∙ ap (spotIn g) same
 

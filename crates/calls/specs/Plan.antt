@@ -26,8 +26,8 @@ abbrev pub planTold : PlanAnswer → Said ℕ
 planTold (PlanAnswer.Refused x) = refusalSaid x
 planTold (PlanAnswer.Rounds k) = answered k
 
--- The buffer afterwards. Where k rounds are answered its first k words are the rounds of a plan, in their order, which one is left free, and the
--- others keep; and otherwise all words keep
+-- The buffer afterwards. If k rounds are answered, its first k words are the rounds of a plan, in their order, and the others stay as they were;
+-- which plan it is, is left free. Otherwise all words stay as they were
 abbrev pub WordsIn : Fitting → List ℕ → List ℕ → Answer ℕ → Type 0
 WordsIn F old new (refusal reason place) = new ≡ old
 WordsIn F old new (value k) = Plan F (take k new) × (drop k new ≡ drop k old)

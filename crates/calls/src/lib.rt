@@ -35,7 +35,7 @@ pub enum PartitionAnswer {
     Refused(Refusal),
 }
 
-// Our own partition: the group of each article, in its byte. Later bytes keep.
+// Our own partition: the group of each article, in its byte. Later bytes stay as they are.
 pub fn partition(file: &[u8], groups: &mut [u8]) -> PartitionAnswer
     ensures { λ r. ⌜ record { answer = partitionTold r; buffer = now (groups .exit) } ≡ partitionOf (now (file .entry)) (now (groups .entry)) ⌝ }
 {
@@ -159,7 +159,7 @@ pub enum FactsAnswer {
 }
 
 // Fact layer k: its facts, and for each of 32 facts those that it is mutex with, in its word. Later
-// words keep.
+// words stay as they are.
 pub fn fact_layer(file: &[u8], k: usize, words: &mut [u32]) -> FactsAnswer
     ensures { λ r. ⌜ record { answer = factsTold r; buffer = now (words .exit) } ≡ factLayerOf (now (file .entry)) k (now (words .entry)) ⌝ }
 {
@@ -185,7 +185,7 @@ pub enum VerticesAnswer {
 }
 
 // Round layer k: its vertices, and for each of 64 vertices those that it is mutex with, in its word.
-// Later words keep.
+// Later words stay as they are.
 pub fn round_layer(file: &[u8], k: usize, words: &mut [u64]) -> VerticesAnswer
     ensures { λ r. ⌜ record { answer = verticesTold r; buffer = now (words .exit) } ≡ roundLayerOf (now (file .entry)) k (now (words .entry)) ⌝ }
 {
@@ -210,7 +210,7 @@ pub enum PlanAnswer {
     Refused(Refusal),
 }
 
-// The fewest rounds of a plan within the file's horizon; the rounds of such a plan stand in the words
+// The fewest rounds of a plan within the file's horizon; the rounds of such a plan are in the words
 // in front, in their order, each as a set of steps. Which of the shortest plans it is, is free.
 pub fn plan(file: &[u8], words: &mut [u32]) -> PlanAnswer
     ensures { λ r. ⌜ planTold r ≡ said (planOf (now (file .entry)) (now (words .entry))) ⌝ }
@@ -234,8 +234,8 @@ pub fn plan(file: &[u8], words: &mut [u32]) -> PlanAnswer
 
 // ---- names and comparison
 
-// The name of article or step `number`, as a part of the file: empty for a refused file, an absent
-// number or no name.
+// The name of article or step `number`, as a part of the file; empty if the file is refused, lacks
+// that number, or has no name for it.
 pub fn name(file: &[u8], number: usize) -> &[u8]
     ensures { λ r. ⌜ now r ≡ nameOf (now (file .entry)) number ⌝ }
 {

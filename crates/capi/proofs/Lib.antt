@@ -1,2 +1,2 @@
--- The laws behind the C interface.
+-- The laws that the C interface rests on.
 pub mod ReturnedLaws

@@ -29,6 +29,6 @@ abbrev pub test : Bool → List ℕ
 test true = 1 ∷ 0 ∷ []
 test false = 0 ∷ 0 ∷ []
 
--- a name: where it starts in the file and how many bytes it has; 0 and 0 where there is none
+-- a name: where it starts in the file and how many bytes it has; 0 and 0 if there is none
 abbrev pub spotted : Spot → Returned
 spotted spot = record { status = 0; words = spot .start ∷ spot .len ∷ [] }

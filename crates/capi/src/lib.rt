@@ -1,5 +1,5 @@
 // The open calls for C and for all that can call C: numbers and slices only. A slice is a pointer and a
-// length there. include/kitchen.h declares what stands here. Each function returns 0 for an answer and
+// length there. include/kitchen.h declares what is here. Each function returns 0 for an answer and
 // the reason's number for a refusal, and always writes both words of `out`.
 ghost use mathlib.Core.Path.{_≡_};
 ghost use mathlib.Core.List.{[], _∷_};
@@ -146,7 +146,7 @@ pub extern "C" fn kitchen_plan(file: &[u8], rounds: &mut [u32], out: &mut [u64; 
 
 // ---- names and comparison
 
-// Where a name stands in the file, by its start and its length.
+// Where a name is in the file, by its start and its length.
 #[no_mangle]
 pub extern "C" fn kitchen_name(file: &[u8], number: u64, out: &mut [u64; 2]) -> u32
     ensures { λ r. ⌜ record { status = r; words = now (out .exit) } ≡ spotted (spotIn (read spots either (now (file .entry))) number) ⌝ }

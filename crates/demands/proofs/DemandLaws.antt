@@ -1,4 +1,4 @@
--- The tests of arguments and the ways to join them, each by the faults that it finds; what a call answers behind its tests, on a file and with a
+-- The tests of arguments and the ways to join them, each by the faults that it finds; what a call answers after its tests, on a file and with a
 -- buffer. proofs/Demands.antt is made of these. Assumes nothing.
 use mathlib.Core.Path.{_≡_, refl, sym, ap, ap₂, _∙_, subst}
 use mathlib.Core.Logic.{_⊎_, inl, inr, ⊎-elim}
@@ -78,7 +78,7 @@ not-turned-down (refusedBy n p) h = go (answers n) refl
     go false e = absurd (h n p (refl, e))
 not-turned-down (answered x) h = refl
 
--- so it is accepted exactly where none of the ways in which a call is turned down is there
+-- so it is accepted exactly if none of the ways in which a call is turned down is there
 pub accepted-exactly : {A : Type 0} (s : Said A) {W : ℕ → ℕ → Type 0} → ((number place : ℕ) → Exactly (Refuses s number place) (W number place)) → Exactly (accepted s ≡ true) ((number place : ℕ) → W number place → ⊥)
 accepted-exactly s h = (λ t number place w. taken-not s t number place (h number place .1 w), λ none. not-turned-down s (λ number place r. none number place (h number place .0 r)))
 
@@ -90,8 +90,8 @@ pub record Tests {A : Type 0} (a : Answer A) (faults : List Fault) : Type 0 wher
 pub tests-end : {A : Type 0} (a : Answer A) → accepted (said a) ≡ true → Tests a []
 tests-end a t = record { exactly = λ number place. (λ w. taken-not (said a) t number place w, λ w. absurd w) }
 
--- Tests that stand together look for these faults. Where a call accepts its input, what it answers is what stands behind them; and it is turned
--- down exactly for the first of these faults and, behind them, of those that what stands behind them is turned down for.
+-- Tests taken together look for these faults. If a call accepts its input, it answers what comes after them. And it is turned down exactly for the
+-- first fault of a list: these faults, and after them those for which what comes after the tests is turned down.
 pub record Checks (t : Answer (Unit {0})) (faults : List Fault) : Type 1 where
   pub passes : {A : Type 0} (a : Answer A) → accepted (said (behind t a)) ≡ true → behind t a ≡ a
   pub tests : {A : Type 0} {a : Answer A} {more : List Fault} → Tests a more → Tests (behind t a) (faults ++ more)
@@ -131,7 +131,7 @@ checks-unless : (b : Bool) (P : Type 0) (r : Reason) {t : Answer (Unit {0})} {fa
 checks-unless true P r stops h c = checks-at (some 0) (λ p. (p ≡ 0) × P) r stops (λ u. (λ e. (sym (Option·some-injective 0 u e), h .0 refl), λ w. ap some (sym (w .0)))) c
 checks-unless false P r stops h c = checks-at none (λ p. (p ≡ 0) × P) r stops (λ u. (λ e. absurd (Option·none-ne-some u e), λ w. absurd (false≢true (h .1 (w .1))))) c
 
--- where all tests pass, what stands behind them is answered
+-- if all tests pass, what comes after them is answered
 pub both-pass : {t s : Answer (Unit {0})} {faults more : List Fault} → Checks t faults → Checks s more → {A : Type 0} (a : Answer A) → accepted (said (behind t (behind s a))) ≡ true → behind t (behind s a) ≡ a
 both-pass {s = s} c d a e = let p = c .passes (behind s a) e in p ∙ d .passes a (sym (ap (λ b. accepted (said b)) p) ∙ e)
 
@@ -275,7 +275,7 @@ module _ (takes : ℕ → Bool) (file : List ℕ) {A : Type 0} (call : Job (List
       → Exactly (Refuses (on (readJob takes file)) number place) (Wrong takes file faults number place)
   file-tests {faults} h number place = file-exactly number place (λ job. FirstOf (faults job) number place) (λ job. h job .exactly number place)
 
-  -- where a call accepts its input, the file states a job, and the call is the one on that job
+  -- if a call accepts its input, the file states a job, and the call is the one on that job
   pub file-taken : accepted (on (readJob takes file)) ≡ true → (job : Job (List ℕ)) × (end : ℕ) × (readJob takes file ≡ got job end) × (onJob (readJob takes file) call ≡ call job) × (accepted (said (call job)) ≡ true)
   file-taken t = go (readJob takes file) refl t
     where
@@ -299,18 +299,18 @@ module _ {A B : Type 0} (words : A → List ℕ) (told : A → B) (old : List �
   left-taken (refusal r p) = refl
   left-taken (value x) = refl
 
-  -- where it is turned down, nothing is written
+  -- if it is turned down, nothing is written
   pub left-kept : (a : Answer A) {number place : ℕ} → leaving words told old a .answer ≡ refusedBy number place → leaving words told old a .buffer ≡ old
   left-kept (refusal r p) e = refl
   left-kept (value x) e = absurd (no-refusal e)
 
-  -- where it is accepted, n words are written in front
+  -- if it is accepted, n words are written in front
   pub left-value : {a : Answer A} {x : A} {n : ℕ} → a ≡ value x → length (words x) ≡ n → (leaving words told old a .answer ≡ answered (told x)) × (leaving words told old a .buffer ≡ words x ++ drop n old)
   left-value {x = x} e l = (ap (λ (a : Answer A). leaving words told old a .answer) e, ap (λ (a : Answer A). leaving words told old a .buffer) e ∙ ap (λ (n : ℕ). words x ++ drop n old) l)
 
 -- ---- what an accepted file states
 
--- no name stands behind its records
+-- after its records there is no name
 pub name-past : (records : List (Record (List ℕ))) (i : ℕ) → length records ≤ i → getD (namesOf records) i [] ≡ []
 name-past [] i l = refl
 name-past (r ∷ records) zero l = absurd (omega arith)
@@ -318,7 +318,7 @@ name-past (r ∷ records) (suc i) l = name-past records i (omega arith)
 
 -- ---- the choice
 
--- "no selection" is an answer to input that is accepted, and no value is it
+-- "no selection" is an answer to input that is accepted, and is never a value
 pub chosen-taken : (o : Option ℕ) (aside : ℕ) → accepted (said (chosenOr o aside)) ≡ true
 chosen-taken none aside = refl
 chosen-taken (some x) aside = refl
@@ -335,7 +335,7 @@ module _ (groups goals : List ℕ) (floor : ℕ) where
       → chooseIn job groups goals floor ≡ chosenOr (selection (networkOf job) (order job) floor) (setAside (networkOf job) group goals)
   choice-is job t = both-pass (groups-checks (networkOf job) groups) (goals-checks (order job) goals) (chosenOr (selection (networkOf job) (order job) floor) (setAside (networkOf job) group goals)) t
 
-  -- short groups, a false partition and a bad goal are not accepted, so the filter and the search had what they ask for
+  -- short groups, a false partition and a bad goal are not accepted, so the filter and the search have what they ask for
   pub choice-kept : (job : Job (List ℕ)) → accepted (said (chooseIn job groups goals floor)) ≡ true → ChoiceKept job group goals floor (said (chooseIn job groups goals floor))
   choice-kept job t = go (ltb (length groups) (size job)) (firstMisplaced (networkOf job) group) (firstBad (order job) goals) (selection (networkOf job) (order job) floor) refl refl refl t
     where
@@ -356,7 +356,7 @@ pub found-taken : {A : Type 0} (o : Option A) (r : Reason) → answers (numberOf
 found-taken none r t = t
 found-taken (some x) r t = refl
 
--- the reason is told exactly where nothing is found, and then at place 0
+-- the reason is told exactly if nothing is found, and then at place 0
 pub found-none : {A : Type 0} (o : Option A) (r : Reason) → (Says (said (foundOr o r)) (numberOf r) → o ≡ none) × (o ≡ none → said (foundOr o r) ≡ refusedBy (numberOf r) 0)
 found-none none r = (λ w. refl, λ e. refl)
 found-none (some x) r = (λ w. absurd (no-refusal (w .1)), λ e. absurd (Option·none-ne-some x (sym e)))

@@ -105,8 +105,8 @@ ChoiceKept job group goals floor (refusedBy number place) = (number ≡ 14) × (
 ChoiceKept job group goals floor (answered c) =
     LeastFrom (Selection (networkOf job) (order job)) floor (c .selection) × (c .aside ≡ setAside (networkOf job) group goals) × ((x u : ℕ) → Selection (networkOf job) (order job) x → u ∈ c .aside → u ∈ x → ⊥)
 
--- On a refusal: it is 15, every plan is longer than the horizon, and nothing was written. On a value: as many words from the first on are the rounds of
--- a plan, one after the other; it is within the horizon, and no plan is shorter; and the later words are as they were.
+-- On a refusal: it is 15, every plan is longer than the horizon, and nothing was written. On a value k: the first k words are the rounds of a
+-- plan, one after the other; it is within the horizon, and no plan is shorter; and the later words are as they were.
 abbrev pub PlanKept : Job (List ℕ) → List ℕ → List ℕ → Said ℕ → Type 0
 PlanKept job old new (refusedBy number place) = (number ≡ 15) × (place ≡ 0) × ((rs : List ℕ) → Plan (fittingOf job) rs → length rs ≤ horizon job → ⊥) × (new ≡ old)
 PlanKept job old new (answered k) =

@@ -34,7 +34,7 @@ passes-part N group live [] i = le-refl _
 passes-part N group live (p ∷ ps) i = le-trans (passes-part N group (pass N group live p) ps i) (pass-part N group live p i)
 
 module _ (N : Network) (group : ℕ → ℕ) (ok : Partition N group) where
-  -- where each member brings at most c of its group, a clash-free set covers no more than the sum of c: no two members share a group
+  -- if each member brings at most c of its group, a clash-free set covers no more than the sum of c: no two members share a group
   pub reach : (x : ℕ) → ClashFree N x → (q : ℕ) → Covers N x q → (c : ℕ → ℕ)
       → ((u : ℕ) → u < N .articles → u ∈ x → count (bitAnd (N .wishes u) q) ≤ c (group u)) → count q ≤ sumTo (N .articles) c
   unfolding together
@@ -62,7 +62,7 @@ module _ (N : Network) (group : ℕ → ℕ) (ok : Partition N group) where
       (le-of-eq (sym (given-yes (member live u && eqb (group u) (group u)) (count (bitAnd (N .wishes u) p)) (true-both (member live u) (eqb (group u) (group u)) (member-yes live u e) (eq-eqb (group u) (group u) refl)))))
       (max-at (N .articles) (share N group live p (group u)) u l)
 
-  -- where the contributions fall short of the goal, no clash-free set of live articles covers it
+  -- if the contributions fall short of the goal, no clash-free set of live articles covers it
   pub short-sound : (live p x : ℕ) → total N group live p < count p → ClashFree N x → x ⊆ live → Covers N x p → ⊥
   unfolding total
   short-sound live p x short free alive cov =

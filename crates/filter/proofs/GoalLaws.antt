@@ -45,7 +45,7 @@ module _ (order p : ℕ) where
       go false true e = refl
       go false false e = absurd (true≢false e)
 
--- where no goal is refused, each lies within the order
+-- if no goal is refused, each lies within the order
 pub goals-within : (order : ℕ) (goals : List ℕ) → firstBad order goals ≡ none → GoalsWithin order goals
 unfolding firstBad
 goals-within order goals e = go goals (λ i l. first-none (λ i. badGoal order (getD goals i 0)) (length goals) 0 e i (omega arith) (omega arith))

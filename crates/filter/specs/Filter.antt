@@ -27,7 +27,7 @@ firstBad order goals = firstFrom (λ i. badGoal order (getD goals i 0)) (length 
 
 -- ---- the pass
 
--- the wishes of p that article u carries, counted; none where u is not live or not of group j
+-- the wishes of p that article u carries, counted; none if u is not live or not of group j
 unfoldable pub share : Network → (ℕ → ℕ) → ℕ → ℕ → ℕ → ℕ → ℕ
 share N group live p j u = given (member live u && eqb (group u) j) (count (bitAnd (N .wishes u) p))
 
@@ -61,6 +61,6 @@ abbrev pub GoalsWithin : ℕ → List ℕ → Type 0
 GoalsWithin order [] = Unit {0}
 GoalsWithin order (p ∷ ps) = (p ⊆ order) × GoalsWithin order ps
 
--- the articles that are no longer live after the passes, where all were live before
+-- the articles that are no longer live after the passes, if all were live before
 unfoldable pub setAside : Network → (ℕ → ℕ) → List ℕ → ℕ
 setAside N group goals = without (full (N .articles)) (passes N group (full (N .articles)) goals)

@@ -28,7 +28,7 @@ fn larger(a: u64, b: u64) -> u64
     a
 }
 
-// How many wishes of the goal article u carries; none where it is not live.
+// How many wishes of the goal article u carries; none if it is not live.
 fn carried(wishes: &[u64; 64], u: usize, live: u64, goal: u64) -> u64
     requires { ⌜ u < 64 ⌝ }
     ensures { λ r. ⌜ r ≡ given (member live u) (count (bitAnd (getD (now (wishes .entry)) u 0) goal)) ⌝ }

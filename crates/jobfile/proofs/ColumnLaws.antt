@@ -51,11 +51,11 @@ module _ (f : List ℕ) (kind : Kind) (count n : ℕ) (from : Cursor) where
   abbrev pub item : ℕ → Reader (Record Spot)
   item = recordAt spots (layoutBy kind) count
 
-  -- the records from i on, behind those that the columns hold
+  -- the records from i on, after those that the columns hold
   abbrev pub rest : ℕ → List (Record Spot) → ℕ → Got (List (Record Spot))
   rest i done at = after done (eachAt item (upFrom (n - i) i) f at)
 
-  -- the loop's invariant, where it is about to read record i
+  -- the loop's invariant, when it is about to read record i
   pub record Filled (first second third starts lens : List ℕ) (next : Cursor) (i : ℕ) : Type 0 where
     pub upto : i ≤ n
     pub read : readFrom from (eachAt item (upFrom n 0) f) ≡ readFrom next (rest i (listTo i (recordFrom kind first second third starts lens)))

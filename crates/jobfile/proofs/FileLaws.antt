@@ -75,7 +75,7 @@ kinds-sound = (choice-sound, (fitting-sound, tt))
 
 -- ---- bounds
 
--- what is related is so place by place, and behind both ends where the defaults are
+-- what is related is so place by place, and after both ends if the defaults are
 pub each-at : {A B : Type 0} (P : A → B → Type 0) (a : A) (b : B) → P a b → (xs : List A) (ys : List B) → Each P xs ys → (k : ℕ) → P (getD xs k a) (getD ys k b)
 each-at P a b past [] [] o k = past
 each-at P a b past [] (y ∷ ys) o k = absurd o
@@ -107,7 +107,7 @@ heads-lawful : (limit top : ℕ) → limit ≤ top → (hs : List ℕ) → All (
 heads-lawful limit top h [] o = tt
 heads-lawful limit top h (b ∷ hs) o = (set-lawful b limit (le-trans (pow-mono h) (o .0)), heads-lawful limit top h hs (o .1))
 
--- ---- behind the kind
+-- ---- after the kind
 
 noRecord : Record (List ℕ)
 noRecord = record { before = []; name = []; after = [] }

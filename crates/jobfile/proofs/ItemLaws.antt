@@ -120,7 +120,7 @@ bytes-take (suc k) (x ∷ l) b (suc i) = bytes-take k l (λ j. b (suc j)) i
 part-bytes : (k at : ℕ) (f : List ℕ) → Bytes f → Bytes (take k (drop at f))
 part-bytes k at f b = bytes-take k (drop at f) (λ i. rw (getD-drop at f i 0) (b (at + i)))
 
--- so many bytes as they stand
+-- k bytes as they are
 letters-lawful : (k : ℕ) → Lawful (λ f at. refuse (ltb (length f) (at + k)) EndsEarly (length f) (got (take k (drop at f)) (at + k))) (λ s. s) (λ s. (length s ≡ k) × Bytes s)
 letters-lawful k =
     record {

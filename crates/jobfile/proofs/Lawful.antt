@@ -1,4 +1,4 @@
--- A reader is lawful for a way of writing and a notion of valid values where it takes exactly what is written of valid values.
+-- A reader is lawful for a way of writing and a notion of valid values if it takes exactly what is written of valid values.
 -- Each item has such a law, and each way to join readers keeps it; the theorems on files are made of these. Assumes nothing.
 use mathlib.Core.Path.{_≡_, refl, ap, sym, _∙_, subst}
 use mathlib.Core.Bool.{Bool, true, false}
@@ -14,7 +14,7 @@ use Rattle.reading.specs.Got.{Got, got, refused, Reader, refuse, andThen, check
 use Rattle.jobfile.specs.Write.{writeEach, writeAll}
 use Rattle.jobfile.specs.Valid.{Bytes, Each, AllFrom}
 
--- what was read stands in the file at its place
+-- what was read is in the file at its place
 pub record Stands {A : Type 0} (write : A → List ℕ) (Ok : A → Type 0) (f : List ℕ) (at : ℕ) (a : A) (n : ℕ) : Type 0 where
   pub within : n ≤ length f
   pub written : drop at f ≡ write a ++ drop n f
@@ -117,7 +117,7 @@ reread same law =
       back = λ a v f at h t e. sym (same f at) ∙ law .back a v f at h t e;
     }
 
--- an item that is there only where it is marked: a value that is absent is not written
+-- an item that is there only if it is marked: a value that is absent is not written
 abbrev pub OnlyIf : Bool → Type 0 → Type 0 → Type 0
 OnlyIf true X E = X
 OnlyIf false X E = E
@@ -131,7 +131,7 @@ pub optional-lawful : {A : Type 0} (marked : Bool) (absent : A) {read : Reader A
 optional-lawful true absent law = restate law (λ a o. o) (λ a o. o) (λ a o. refl)
 optional-lawful false absent law = restate (pure-lawful absent) (λ a o. o) (λ a o. o) (λ a o. refl)
 
--- one reader behind another: `part` tells from the whole value what the first has read
+-- one reader after another: `part` tells from the whole value what the first has read
 pub seq-lawful : {A B : Type 0} (part : B → A) {r₁ : Reader A} {w₁ : A → List ℕ} {V₁ : A → Type 0} {r₂ : A → Reader B} {w₂ : A → B → List ℕ} {V₂ : A → B → Type 0}
     → Lawful r₁ w₁ V₁ → ((a : A) → V₁ a → Lawful (r₂ a) (w₂ a) (V₂ a)) → ((a : A) (b : B) → V₁ a → V₂ a b → part b ≡ a)
     → Lawful (λ f at. andThen (r₁ f at) λ a n. r₂ a f n) (λ b. w₁ (part b) ++ w₂ (part b) b) (λ b. V₁ (part b) × V₂ (part b) b)
@@ -178,7 +178,7 @@ abbrev pub All : {A : Type 0} → (A → Type 0) → List A → Type 0
 All P [] = Unit {0}
 All P (x ∷ xs) = P x × All P xs
 
--- the head and the tail of a list, of which one that is empty has some
+-- the head and the tail of a list; an empty list has some, too
 abbrev pub headOr : {A : Type 0} → A → List A → A
 headOr none [] = none
 headOr none (x ∷ xs) = x
@@ -229,7 +229,7 @@ module _ {A B : Type 0} (none : B) (item : A → Reader B) (write : A → B → 
       same [] o = let e = o .1 in let z : _≡_ {A = ℕ} 0 1 = cc in absurd (omega arith)
       same (y ∷ ys) o = refl
 
--- records one behind the other, each with its number
+-- records one after the other, each with its number
 module _ {B : Type 0} (none : B) (item : ℕ → Reader B) (write : B → List ℕ) (Ok : ℕ → B → Type 0) (limit : ℕ) (each : (i : ℕ) → i < limit → Lawful (item i) write (Ok i)) where
   numbered : (n i : ℕ) → i + n ≤ limit → All (λ j. Lawful (item j) write (Ok j)) (upFrom n i)
   unfolding upFrom

@@ -1,4 +1,4 @@
--- Reading is the same whatever a name is taken for: the job's names are the bytes that stand at the spots. Assumes nothing.
+-- Reading is the same whatever a name is taken for: the job's names are the bytes at the spots. Assumes nothing.
 use mathlib.Core.Path.{_≡_, refl, ap, _∙_}
 use mathlib.Core.Bool.{Bool, true, false}
 use mathlib.Core.List.{List, [], _∷_, map, map-map}
@@ -98,7 +98,7 @@ module _ (f : List ℕ) where
   names-same (r ∷ rs) zero = refl
   names-same (r ∷ rs) (suc i) = names-same rs i
 
-  -- the name of a record is what stands at its spot
+  -- the name of a record is the bytes at its spot
   pub name-at-spot : (takes : ℕ → Bool) (i : ℕ) → nameIn (readJob takes f) i ≡ bytesAt f (spotIn (read spots takes f) i)
   name-at-spot takes i = ap (λ g. nameIn g i) (read-same takes) ∙ go (read spots takes f)
     where

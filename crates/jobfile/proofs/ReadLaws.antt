@@ -1,4 +1,4 @@
--- Whole files as the code reads them: its items, one behind the other, are those of the definition, and its columns are the job's. Assumes nothing.
+-- Whole files as the code reads them: its items, one after the other, are those of the definition, and its columns are the job's. Assumes nothing.
 use mathlib.Core.Path.{_≡_, refl, ap, sym, _∙_, subst}
 use mathlib.Core.Bool.{Bool, true, false, _||_}
 use mathlib.Core.List.{List, [], _∷_, map}
@@ -51,7 +51,7 @@ padded-at size l h i = go (decLt i size)
     go (yes k) = list-at size (λ j. getD l j 0) 0 i k
     go (no k) = list-past size (λ j. getD l j 0) 0 i (omega arith) ∙ sym (List·getD-eq-default l 0 (omega arith))
 
--- where nothing was read every element is 0
+-- if nothing was read, every element is 0
 pub nothing-there : (i : ℕ) → getD (padded 64 []) i 0 ≡ 0
 nothing-there i = padded-at 64 [] zero-le i
 
@@ -193,7 +193,7 @@ either-choice names f e = read-by names either choices f (go (eqb (getD f 0 0) 6
     go true = refl
     go false = e
 
--- behind the end of the columns there is nothing
+-- after the end of the columns there is nothing
 pub spot-past : (starts lens : List ℕ) (i : ℕ) → length starts ≡ 64 → length lens ≡ 64 → 64 ≤ i → record { start = 0; len = 0 } ≡ spotOf starts lens i
 spot-past starts lens i p q h = rw (List·getD-eq-default starts 0 {n = i} (omega arith), List·getD-eq-default lens 0 {n = i} (omega arith))
 

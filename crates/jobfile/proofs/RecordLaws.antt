@@ -1,4 +1,4 @@
--- The laws of records: a field is marked in the bit map exactly where it is not empty, for any list of fields. Assumes nothing.
+-- The laws of records: a field is marked in the bit map exactly if it is not empty, for any list of fields. Assumes nothing.
 use mathlib.Core.Path.{_≡_, refl, ap, sym, _∙_, subst}
 use mathlib.Core.Bool.{Bool, true, false, not, cond, true≢false, false≢true}
 use mathlib.Core.List.{List, [], _∷_, _++_, append-assoc, append-nil}
@@ -61,7 +61,7 @@ unfolding mapOf
 map-below [] = lit< tt
 map-below (field ∷ fields) = omega (arith, map-below fields, pow-suc 2 (length fields), num-le (not (isEmpty field)))
 
--- fields behind fields
+-- fields after fields
 marked-both : (fields others : List (List ℕ)) (m k : ℕ) → Marked fields m k → Marked others m (k + length fields) → Marked (fields ++ others) m k
 marked-both [] others m k o p = subst (λ (x : ℕ). Marked others m x) (add-zero k) p
 marked-both (g ∷ fields) others m k o p =
@@ -89,7 +89,7 @@ written-field (suc bytes) v h = go (eqb v 0)
     go true = refl
     go false = refl
 
--- a number of so many bytes that is not 0 and is below a top
+-- a number of this many bytes that is not 0 and is below a top
 marked-lawful : (marked : Bool) (bytes top : ℕ) {read : Reader ℕ} → 0 < bytes → 0 < top → Lawful read (bytesOf bytes) (λ v. (0 < v) × (v < top))
     → Lawful (optional marked 0 read) (fieldBytes bytes) (λ v. (v < top) × (marked ≡ not (isEmpty (fieldBytes bytes v))))
 unfolding fieldBytes
@@ -231,7 +231,7 @@ record-lawful layout count number room room′ few small =
     below-all : (r : Record (List ℕ)) → mapOf (partsBytes layout r) < 2 ^ bits layout
     below-all r = subst (λ (x : ℕ). mapOf (partsBytes layout r) < 2 ^ x) (all-bits r) (map-below (partsBytes layout r))
 
-    -- the name's bit is the one behind those of the fields before it
+    -- the name's bit is the one after those of the fields before it
     behind-front : (r : Record (List ℕ)) → 0 + length (front r) ≡ nameBit layout
     behind-front r = omega (arith, length-fields (layout .before) (r .before))
 

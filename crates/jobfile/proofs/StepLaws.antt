@@ -1,4 +1,4 @@
--- Records and files from a cursor on: the items that the code has found, one behind the other, are those of the definition. Assumes nothing.
+-- Records and files from a cursor on: the items that the code has found, one after the other, are those of the definition. Assumes nothing.
 use mathlib.Core.Path.{_≡_, refl, ap, sym, _∙_}
 use mathlib.Core.Bool.{Bool, true, false, cond}
 use mathlib.Core.List.{List, [], _∷_}

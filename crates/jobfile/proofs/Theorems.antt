@@ -24,7 +24,7 @@ use Rattle.jobfile.proofs.FileLaws.{Sound, kinds-sound, layout-found, B
 
 -- ---- for any list of sound layouts
 
--- what stands behind a kind, where it may be one that there is not
+-- what comes after a kind, which may be one that there is not
 abbrev BodyBy : Option Layout → Job (List ℕ) → Type 0
 BodyBy none job = ⊥
 BodyBy (some layout) job = Body layout job

@@ -16,7 +16,7 @@ pub record Count : Type 0 where
 pub data Bound : Type 0 where
   counted own : Bound
 
--- a field of a record: a set of so many bytes, with the bound of its members; or an amount of so many bytes
+-- a field of a record: a set, with its count of bytes and the bound of its members; or an amount, with its count of bytes
 pub data Field : Type 0 where
   set : ℕ → Bound → Field
   amount : ℕ → Field

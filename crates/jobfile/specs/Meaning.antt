@@ -35,7 +35,7 @@ setsBy Fitting a b c = a ∷ b ∷ c ∷ []
 abbrev pub recordOf : Kind → Found.Record → Got (Record Spot)
 recordOf kind r = gotBy (record { before = setsBy kind (r .first) (r .second) (r .third); name = r .spot; after = [] }) (r .next)
 
--- a record of a choice has no third set, and a name stands within its file
+-- a record of a choice has no third set, and a name lies within its file
 abbrev pub Tidy : Kind → ℕ → ℕ → ℕ → ℕ → Type 0
 Tidy Choice size third start len = (third ≡ 0) × (start + len ≤ size)
 Tidy Fitting size third start len = start + len ≤ size
@@ -48,7 +48,7 @@ recordFrom kind first second third starts lens i =
 abbrev pub recordsOf : Kind → ℕ → Records → Got (List (Record Spot))
 recordsOf kind n r = gotBy (listTo n (recordFrom kind (r .first) (r .second) (r .third) (r .starts) (r .lens))) (r .next)
 
--- the columns have 64 elements, 0 from n on, a choice has no third set, and names stand within the file
+-- the columns have 64 elements, 0 from n on, a choice has no third set, and names lie within the file
 pub record Column (n : ℕ) (l : List ℕ) : Type 0 where
   pub size : length l ≡ 64
   pub past : (i : ℕ) → n ≤ i → getD l i 0 ≡ 0
@@ -63,7 +63,7 @@ pub record Columns (kind : Kind) (n size : ℕ) (r : Records) : Type 0 where
 
 -- ---- files
 
--- a list in an array of this size, with 0 behind its end
+-- a list in an array of this size, with 0 after its end
 abbrev pub padded : ℕ → List ℕ → List ℕ
 padded size l = listTo size (λ i. getD l i 0)
 
@@ -134,11 +134,11 @@ abbrev pub Few : ℕ → Got (Job Spot) → Type 0
 Few limit (refused reason place) = Unit {0}
 Few limit (got job end) = (length (job .records) ≡ size job) × (size job ≤ limit)
 
--- every name stands within a file of this length
+-- every name lies within a file of this length
 abbrev pub NamesWithin : ℕ → List ℕ → List ℕ → Type 0
 NamesWithin end starts lens = (i : ℕ) → getD starts i 0 + getD lens i 0 ≤ end
 
--- element i of the columns of names: 0 and 0 behind their end
+-- element i of the columns of names: 0 and 0 after their end
 abbrev pub spotOf : List ℕ → List ℕ → ℕ → Spot
 spotOf starts lens i = record { start = getD starts i 0; len = getD lens i 0 }
 

@@ -12,7 +12,7 @@ use Rattle.reading.specs.Items.{Naming, bytesIn, kindAt, countAt, mapAt, setAt,
 use Rattle.jobfile.specs.Layout.{Bound, counted, own, Field, set, amount, Layout, nameBit, bits, layoutOf}
 use Rattle.jobfile.specs.Job.{Record, Job}
 
--- what the members of a set are below, where the file counts so many wishes or facts and the record has this number
+-- what the members of a set are below, if the file has this count of wishes or facts and the record has this number
 abbrev pub below : Bound → ℕ → ℕ → ℕ
 below counted count number = count
 below own count number = number
@@ -39,7 +39,7 @@ recordAt names layout count number f at =
     andThen (fieldsAt (layout .after) count number m (suc (nameBit layout)) f c) λ after d.
     got (record { before = before; name = name; after = after }) d
 
--- what stands behind the kind
+-- what comes after the kind
 unfoldable pub bodyAt : {N : Type 0} → Naming N → Layout → Reader (Job N)
 bodyAt names layout f at =
     andThen (eachAt (λ c. countAt (c .bytes) (c .limit)) (layout .counts) f at) λ counts a.

@@ -9,7 +9,7 @@ use Rattle.sets.specs.Ranges.{num}
 use Rattle.jobfile.specs.Layout.{Field, width, Layout, layoutOf}
 use Rattle.jobfile.specs.Job.{Record, Job}
 
--- a number in so many bytes, the lowest first
+-- a number in this many bytes, the lowest first
 unfoldable pub bytesOf : ℕ → ℕ → List ℕ
 bytesOf zero v = []
 bytesOf (suc bytes) v = v % 256 ∷ bytesOf bytes (v / 256)
@@ -38,7 +38,7 @@ unfoldable pub mapOf : List (List ℕ) → ℕ
 mapOf [] = 0
 mapOf (field ∷ fields) = num (not (isEmpty field)) + 2 * mapOf fields
 
--- lists one behind the other
+-- lists one after the other
 unfoldable pub joined : List (List ℕ) → List ℕ
 joined [] = []
 joined (xs ∷ xss) = xs ++ joined xss

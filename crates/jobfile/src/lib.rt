@@ -1,6 +1,6 @@
 // Job files: what a file states, or why it is refused and where.
 //
-// The formats stand in specs/Layout.antt, as tables, and what reading gives in specs/Read.antt.
+// The formats are in specs/Layout.antt, as tables, and what reading gives is in specs/Read.antt.
 ghost use mathlib.Core.Path.{_≡_};
 ghost use Prim.Native.Nat.{_+_, _≤_};
 ghost use lib.Dec.{eqb};
@@ -44,8 +44,8 @@ pub enum Verdict {
     Refused(Refusal),
 }
 
-// A choice file as read. The arrays have an element for each article, and 0 behind the last. Where
-// the file is refused, all but the verdict is 0.
+// A choice file as read. The arrays have an element for each article, and 0 after the last. If the
+// file is refused, all but the verdict is 0.
 pub struct ReadChoice {
     pub verdict: Verdict,
     pub articles: usize,
@@ -73,7 +73,7 @@ pub struct ReadFitting {
 }
 
 // The names of a file of either kind as read, likewise: how many articles or steps there are, and where
-// the name of each stands.
+// the name of each is.
 pub struct ReadNames {
     pub verdict: Verdict,
     pub count: usize,
@@ -116,7 +116,7 @@ fn no_fitting(refusal: Refusal) -> ReadFitting
     }
 }
 
-// Reads a choice file. The names stand within it, and the counts keep to their limits.
+// Reads a choice file. The names lie within it, and the counts keep to their limits.
 pub fn read_choice(file: &[u8]) -> ReadChoice
     ensures { λ r. ⌜ r ≡ choiceRead (read spots choices (now (file .entry))) ⌝ }
     ensures { λ r. ⌜ ChoiceBounds (now (file .entry)) r ⌝ }
@@ -239,7 +239,7 @@ pub fn read_names(file: &[u8]) -> ReadNames
     }
 }
 
-// An element of the columns of names: none behind their end.
+// An element of the columns of names: none after their end.
 fn spot_at(starts: [usize; 64], lens: [usize; 64], number: usize) -> Spot
     ensures { λ r. ⌜ r ≡ spotOf starts lens number ⌝ }
 {
@@ -252,7 +252,7 @@ fn spot_at(starts: [usize; 64], lens: [usize; 64], number: usize) -> Spot
     }
 }
 
-// Where the name of article or step `number` stands, in a file of either kind.
+// Where the name of article or step `number` is, in a file of either kind.
 pub fn spot(file: &[u8], number: usize) -> Spot
     ensures { λ r. ⌜ r ≡ spotIn (read spots either (now (file .entry))) number ⌝ }
     ensures { λ r. ⌜ r .start + r .len ≤ length (now (file .entry)) ⌝ }

@@ -1,2 +1,2 @@
--- The laws behind names and likeness.
+-- The laws that names and likeness rest on.
 pub mod SameLaws

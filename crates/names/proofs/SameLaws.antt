@@ -53,7 +53,7 @@ lengths-differ a b d = differ a b (λ e. d (ap (λ (l : List ℕ). length l) e))
 
 -- ---- arrays
 
--- lists of one length that fit the array are the same where the arrays are
+-- lists of one length that fit the array are the same exactly if the arrays are
 pub padded-same : (size : ℕ) (a b : List ℕ) → length a ≡ length b → length a ≤ size → sameList (padded size a) (padded size b) ≡ sameList a b
 padded-same size a b l room = ⊎-elim yes-same no-same (test-cases (sameList a b))
   where

@@ -1,4 +1,4 @@
--- Reading on from a cursor: what the code has found stands in for what the definition reads there. Assumes nothing.
+-- Reading on from a cursor: what the code has found takes the place of what the definition reads there. Assumes nothing.
 use mathlib.Core.Path.{_≡_, refl, ap, ap₂, sym, _∙_}
 use mathlib.Core.Bool.{Bool, true, false, cond}
 use mathlib.Core.List.{List, [], _∷_}
@@ -31,7 +31,7 @@ pub settled : {A : Type 0} (a : A) (c : Cursor) → readFrom c (λ n. got a n) �
 settled a (Cursor.At n) = refl
 settled a (Cursor.Refused r) = refl
 
--- where the value a, with the cursor c behind it, is what r reads from a cursor, the rest reads on from c
+-- if the value a, with the cursor c after it, is what r reads from a cursor, the rest reads on from c
 pub advance : {A B : Type 0} (a : A) (c from : Cursor) (r : ℕ → Got A) (k : A → ℕ → Got B) (g : ℕ → Got B)
     → gotBy a c ≡ readFrom from r → ((n : ℕ) → g n ≡ andThen (r n) k) → readFrom from g ≡ readFrom c (k a)
 advance a c (Cursor.At n) r k g e h = h n ∙ ap (λ x. andThen x k) (sym e) ∙ onward c
@@ -92,7 +92,7 @@ count-limit limit v {r} e = go (ltb limit v) refl e
     go true q h = omega arith
     go false q h = omega (arith, ltb-false limit v q)
 
--- ---- the kind, numbers and names, where the code finds what it finds
+-- ---- the kind, numbers and names, by what the code finds
 
 module _ (f : List ℕ) (kind : ℕ) where
   pub kind-none : length f ≡ 0 → refused WrongKind 0 ≡ kindAt (λ k. eqb k kind) f 0

@@ -17,7 +17,7 @@ abbrev pub refuse : {A : Type 0} → Bool → Reason → ℕ → Got A → Got A
 refuse true reason place rest = refused reason place
 refuse false reason place rest = rest
 
--- read on behind a value: the first fault ends it all
+-- read on after a value: the first fault ends it all
 abbrev pub andThen : {A B : Type 0} → Got A → (A → ℕ → Got B) → Got B
 andThen (refused reason place) rest = refused reason place
 andThen (got value next) rest = rest value next
@@ -26,12 +26,12 @@ andThen (got value next) rest = rest value next
 abbrev pub checked : {A : Type 0} → (A → Bool) → Reason → Reader A → Reader A
 checked fault reason item f at = andThen (item f at) λ value next. refuse (fault value) reason at (got value next)
 
--- an item that is there only where it is marked
+-- an item that is there only if it is marked
 abbrev pub optional : {A : Type 0} → Bool → A → Reader A → Reader A
 optional true absent item f at = item f at
 optional false absent item f at = got absent at
 
--- an item for each element of a list, one behind the other
+-- an item for each element of a list, one after the other
 unfoldable pub eachAt : {A B : Type 0} → (A → Reader B) → List A → Reader (List B)
 eachAt item [] f at = got [] at
 eachAt item (x ∷ xs) f at =

@@ -12,12 +12,12 @@ use Rattle.reading.specs.Got.{got, Reader, refuse, andThen, checked}
 unfoldable pub kindAt : (ℕ → Bool) → Reader ℕ
 kindAt takes f at = refuse (leb (length f) at) WrongKind at (refuse (not (takes (getD f at 0))) WrongKind at (got (getD f at 0) (at + 1)))
 
--- the number that so many bytes from a position on spell, the lowest first
+-- the number that this many bytes spell from a position on, the lowest first
 unfoldable pub valueAt : ℕ → List ℕ → ℕ → ℕ
 valueAt zero f at = 0
 valueAt (suc bytes) f at = getD f at 0 + 256 * valueAt bytes f (at + 1)
 
--- reason 2: a number of so many bytes
+-- reason 2: a number of this many bytes
 unfoldable pub numberAt : ℕ → Reader ℕ
 numberAt bytes f at = refuse (ltb (length f) (at + bytes)) EndsEarly (length f) (got (valueAt bytes f at) (at + bytes))
 
@@ -25,7 +25,7 @@ numberAt bytes f at = refuse (ltb (length f) (at + bytes)) EndsEarly (length f) 
 unfoldable pub countAt : ℕ → ℕ → Reader ℕ
 countAt bytes limit = checked (ltb limit) OverLimit (numberAt bytes)
 
--- reason 4: the bit map of a record with so many fields
+-- reason 4: the bit map of a record with this many fields
 unfoldable pub mapAt : ℕ → Reader ℕ
 mapAt fields = checked (leb (2 ^ fields)) ForbiddenBit (numberAt 1)
 
@@ -41,7 +41,7 @@ amountAt bytes = checked (λ v. eqb v 0) EmptyField (numberAt bytes)
 unfoldable pub fieldAt : ℕ → ℕ → Reader ℕ
 fieldAt bytes limit = checked (leb (2 ^ limit)) AbsentMember (amountAt bytes)
 
--- What a name is taken for: its bytes, as the job has it, or the spot where they stand, as the code does.
+-- What a name is taken for: its bytes, as the job has it, or the spot where they are, as the code has it.
 pub record Naming (N : Type 0) : Type 0 where
   pub absent : N
   pub standing : ℕ → ℕ → N

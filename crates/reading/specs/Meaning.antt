@@ -11,9 +11,9 @@ use Rattle.reading.specs.declared.item.Item.{Item}
 use Rattle.reading.specs.declared.item.Named.{Named}
 use Rattle.reading.specs.Got.{Got, got, refused}
 
--- ---- where reading stands
+-- ---- where reading is
 
--- a value that was read, and where reading stands behind it
+-- a value that was read, and where reading is after it
 abbrev pub gotBy : {A : Type 0} → A → Cursor → Got A
 gotBy value (Cursor.At at) = got value at
 gotBy value (Cursor.Refused r) = refused (r .reason) (r .place)
@@ -31,7 +31,7 @@ abbrev pub stopped : Cursor → Reason → ℕ → Cursor
 stopped (Cursor.At at) reason place = Cursor.Refused (record { reason = reason; place = place })
 stopped (Cursor.Refused r) reason place = Cursor.Refused r
 
--- reason 8, where the file has this length
+-- reason 8, of a file of this length
 abbrev pub finished : ℕ → Cursor → Cursor
 finished end (Cursor.At at) = cond (ltb at end) (Cursor.Refused (record { reason = TrailingBytes; place = at })) (Cursor.At at)
 finished end (Cursor.Refused r) = Cursor.Refused r

@@ -14,19 +14,19 @@ use crate::Refusal;
 use crate::Spot;
 use sets::word;
 
-// Where reading stands: at a position of the file, or refused.
+// Where reading is: at a position of the file, or refused.
 pub enum Cursor {
     At(usize),
     Refused(Refusal),
 }
 
-// A number that was read, and where reading stands behind it. Where it is refused the number is 0.
+// A number that was read, and where reading is after it. If reading is refused, the number is 0.
 pub struct Item {
     pub value: u64,
     pub next: Cursor,
 }
 
-// A name that was read: where it stands.
+// A name that was read: where it is in the file.
 pub struct Named {
     pub spot: Spot,
     pub next: Cursor,
@@ -42,7 +42,7 @@ fn place(from: Cursor) -> usize
     }
 }
 
-// A fault, where reading was not refused before.
+// A fault, if reading was not refused before.
 fn stop(next: Cursor, reason: Reason, place: usize) -> Cursor
     ensures { λ r. ⌜ r ≡ stopped next reason place ⌝ }
 {
@@ -52,7 +52,7 @@ fn stop(next: Cursor, reason: Reason, place: usize) -> Cursor
     }
 }
 
-// An item that is refused where its test found a fault.
+// An item that is refused if its test found a fault.
 fn tested(item: Item, fault: bool, reason: Reason, place: usize) -> Item
     ensures { λ r. ⌜ itemGot r ≡ andThen (itemGot item) (λ v n. refuse fault reason place (got v n)) ⌝ }
     ensures { λ r. ⌜ r .value ≡ cond fault 0 (item .value) ⌝ }
@@ -73,7 +73,7 @@ fn wide(x: u8) -> u64
     x as u64
 }
 
-// The number that so many bytes spell, from the highest byte down.
+// The number that this many bytes spell, from the highest byte down.
 fn value(file: &[u8], at: usize, bytes: usize) -> u64
     requires { ⌜ (at + bytes ≤ length (now file)) × (bytes ≤ 8) ⌝ }
     ensures { λ r. ⌜ r ≡ valueAt bytes (now (file .entry)) at ⌝ }
@@ -97,7 +97,7 @@ fn ends_early(end: usize, at: usize, due: usize) -> bool
     end - at < due
 }
 
-// A number of so many bytes.
+// A number of this many bytes.
 fn number(file: &[u8], from: Cursor, bytes: usize) -> Item
     requires { ⌜ bytes ≤ 8 ⌝ }
     ensures { λ r. ⌜ itemGot r ≡ readFrom from (numberAt bytes (now (file .entry))) ⌝ }
@@ -144,7 +144,7 @@ pub fn count(file: &[u8], from: Cursor, limit: u64) -> Item
     tested(item, limit < v, Reason::OverLimit, place(from))
 }
 
-// The bit map of a record with so many fields.
+// The bit map of a record with this many fields.
 pub fn bit_map(file: &[u8], from: Cursor, fields: usize) -> Item
     ensures { λ r. ⌜ itemGot r ≡ readFrom from (mapAt fields (now (file .entry))) ⌝ }
 {
@@ -173,7 +173,7 @@ pub fn set(file: &[u8], from: Cursor, bytes: usize, limit: usize) -> Item
     )
 }
 
-// Such a set as a field of a record, which is there where it is marked.
+// Such a set as a field of a record, which is there if it is marked.
 pub fn field(file: &[u8], from: Cursor, marked: bool, bytes: usize, limit: usize) -> Item
     requires { ⌜ bytes ≤ 8 ⌝ }
     ensures { λ r. ⌜ itemGot r ≡ readFrom from (optional marked 0 (fieldAt bytes limit) (now (file .entry))) ⌝ }
@@ -207,7 +207,7 @@ fn name_length(file: &[u8], from: Cursor, limit: u64) -> Item
     tested(present, limit < seen, Reason::LongName, place(from))
 }
 
-// A name, which is there where it is marked.
+// A name, which is there if it is marked.
 pub fn name(file: &[u8], from: Cursor, marked: bool, limit: u64) -> Named
     ensures { λ r. ⌜ nameGot r ≡ readFrom from (optional marked (spots .absent) (nameAt spots limit) (now (file .entry))) ⌝ }
     ensures { λ r. ⌜ r .spot .start + r .spot .len ≤ length (now (file .entry)) ⌝ }

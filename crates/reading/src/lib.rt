@@ -4,7 +4,7 @@ ghost use Rattle.reading.specs.Reasons.{numberOf};
 
 pub mod item;
 
-// Why a call is turned down. The rules' number of each stands in specs/Reasons.antt.
+// Why a call is turned down. The rules' number of each is in specs/Reasons.antt.
 pub enum Reason {
     WrongKind,
     EndsEarly,
@@ -40,7 +40,7 @@ pub fn refusal_at(reason: Reason, place: usize) -> Refusal
     }
 }
 
-// Where the bytes of a name stand in a file: 0 and 0 where there is none.
+// Where the bytes of a name are in a file: 0 and 0 if there is none.
 pub struct Spot {
     pub start: usize,
     pub len: usize,

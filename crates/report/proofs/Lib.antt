@@ -1,2 +1,2 @@
--- The laws behind the report.
+-- The laws that the report rests on.
 pub mod OutcomeLaws

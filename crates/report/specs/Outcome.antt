@@ -29,7 +29,7 @@ mapped f (answered x) = answered (f x)
 abbrev pub outcomeOf : List ℕ → List ℕ → Said Result
 outcomeOf file words = cond (eqb (getD file 0 0) 70) (mapped planned (said (planOf file words))) (mapped selected (said (offerOf file)))
 
--- which of the shortest plans stands in the words afterwards is left free, and nothing else; of any other file the words are as they were
+-- which of the shortest plans is in the words afterwards is left free, and nothing else; of any other file the words are as they were
 abbrev pub RoundWords : List ℕ → List ℕ → List ℕ → Type 0
 RoundWords file old new = Buffer (readJob fittings file) old new (planOf file old)
 

@@ -34,7 +34,7 @@ fn chosen(file: &[u8]) -> OutcomeAnswer
     }
 }
 
-// What comes of a file, and the rounds of a plan in the words, whatever stood there.
+// What comes of a file, and the rounds of a plan in the words, whatever was there.
 pub fn outcome(file: &[u8], words: &mut [u32; HORIZON]) -> OutcomeAnswer
     ensures { λ r. ⌜ outcomeTold r ≡ outcomeOf (now (file .entry)) (now (words .entry)) ⌝ }
     ensures { λ r. ⌜ RoundWords (now (file .entry)) (now (words .entry)) (now (words .exit)) ⌝ }

@@ -232,7 +232,7 @@ pub yes-part : (a b : ℕ) → part a b ≡ true → a ⊆ b
 unfolding part
 yes-part a b t = none-without a b (eqb-true (without a b) 0 t)
 
--- "where i is a member, b" as a test
+-- "if i is a member, b" as a test
 pub where-in : (s i : ℕ) (b : Bool) → (i ∈ s → b ≡ true) → not (member s i) || b ≡ true
 where-in s i b h = where-true (member s i) b (λ e. h (yes-member s i e))
 
@@ -351,7 +351,7 @@ pub part-minus : (a b : ℕ) → a ⊆ b → b - a ≡ without b a
 unfolding without
 part-minus a b h = ap (λ (x : ℕ). b - x) (ext a (bitAnd b a) (λ i. omega (arith, bit-and b a i, h i)))
 
--- the bits of a difference, where what is taken away is a part
+-- the bits of a difference, if what is taken away is a part
 pub bit-minus : (a b i : ℕ) → a ⊆ b → bit (b - a) i ≡ bit b i - bit a i
 bit-minus a b i h = ap (λ (x : ℕ). bit x i) (part-minus a b h) ∙ bit-without b a i
 

@@ -19,7 +19,7 @@ pub left-over : lowest 200 (without (full 200) (full 150)) ≡ 150
 unfolding trailingZeros without
 left-over = refl
 
--- those of the first 300 numbers that are at least 3; and what the members 0, 2 and 299 have together, where each has itself
+-- those of the first 300 numbers that are at least 3; and what the members 0, 2 and 299 have together, if each has itself
 pub tested : setOf 300 (leb 3) ≡ 2 ^ 300 - 8
 unfolding setOf sumTo
 tested = refl

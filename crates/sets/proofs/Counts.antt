@@ -89,7 +89,7 @@ count-without a b =
       sum-cong a (λ i. bit (without a b) i + bit (bitAnd a b) i) (bit a) (λ i l. omega (arith, bit-without a b i, bit-and a b i)),
     )
 
--- q is counted by its rest without s and by what of s lies in p, where q is a part of p
+-- q is counted by its rest without s and by what of s lies in p, if q is a part of p
 pub count-split : (q p s : ℕ) → q ⊆ p → count q ≤ count (without q s) + count (bitAnd s p)
 count-split q p s h =
     omega (arith, count-without q s, count-part (bitAnd q s) (bitAnd s p) (λ i. omega (arith, h i, bit-and q s i, bit-and s p i)))

@@ -30,7 +30,7 @@ filled-end w f rows i (size, held) e =
     ext-getD 0 rows (listTo w f) (size ∙ sym (list-length w f))
     (λ k l. let h : k < w = omega (arith, size) in held k (omega arith) ∙ sym (list-at w f 0 k h))
 
--- ---- copying: the first i words stand at the places from `at` on, and all others are as they were
+-- ---- copying: the first i words are at the places from `at` on, and all others are as they were
 
 module _ (old : List ℕ) (at : ℕ) (from : List ℕ) where
   abbrev pub Pasted : List ℕ → ℕ → Type 0

@@ -36,7 +36,7 @@ module _ (test : ℕ → Bool) where
   unfolding firstFrom
   first-miss n x e = ap (λ (t : Bool). elim t as (λ t. Option ℕ) [ true ↦ some x | false ↦ firstFrom test n (suc x) ]) e
 
-  -- the turns of a loop that has so many numbers left, from x on
+  -- the turns of a loop that has `left` numbers still to try, from x on
   pub first-here : (left x : ℕ) → 0 < left → test x ≡ true → some x ≡ firstFrom test left x
   first-here left x l e = let k : left ≡ suc (left - 1) = omega arith in sym (ap (λ (m : ℕ). firstFrom test m x) k ∙ first-hit (left - 1) x e)
 
@@ -49,7 +49,7 @@ module _ (test : ℕ → Bool) where
   unfolding firstFrom
   first-nowhere left x l = let k : 0 ≡ left = omega arith in ap (λ (m : ℕ). firstFrom test m x) k
 
-  -- a loop over the numbers below n, of which so many are left: the next is n - left
+  -- a loop over the numbers below n, with `left` of them still to try: the next is n - left
   pub left-start : (n : ℕ) → firstFrom test n (n - n) ≡ firstFrom test n 0
   left-start n = let k : n - n ≡ 0 = omega arith in ap (firstFrom test n) k
 
@@ -57,7 +57,7 @@ module _ (test : ℕ → Bool) where
   left-next n left l h e =
       let k : n - (left - 1) ≡ n - left + 1 = omega arith in ap (firstFrom test (left - 1)) k ∙ sym (first-next left (n - left) l e)
 
-  -- what was found passes, and stands among the numbers that were tried
+  -- what was found passes, and is one of the numbers that were tried
   pub first-some : (n x j : ℕ) → firstFrom test n x ≡ some j → (x ≤ j) × (j < x + n) × (test j ≡ true)
   unfolding firstFrom
   first-some zero x j e = absurd (Option·none-ne-some j e)
@@ -67,7 +67,7 @@ module _ (test : ℕ → Bool) where
       go true t r = let q : x ≡ j = Option·some-injective x j (sym (first-hit n x t) ∙ e) in (omega arith, omega arith, ap test (sym q) ∙ t)
       go false t r = let (a, b, c) = r (sym (first-miss n x t) ∙ e) in (omega arith, omega arith, c)
 
-  -- where nothing was found, all fail
+  -- if nothing was found, all fail
   pub first-none : (n x : ℕ) → firstFrom test n x ≡ none → (j : ℕ) → x ≤ j → j < x + n → test j ≡ false
   unfolding firstFrom
   first-none zero x e j l k = absurd (omega arith)
@@ -81,7 +81,7 @@ module _ (test : ℕ → Bool) where
           at (yes q) = ap test (sym q) ∙ t
           at (no d) = r (sym (first-miss n x t) ∙ e) j (omega arith) (omega arith)
 
-  -- where all fail, nothing is found
+  -- if all fail, nothing is found
   pub none-first : (n x : ℕ) → ((j : ℕ) → x ≤ j → j < x + n → test j ≡ false) → firstFrom test n x ≡ none
   unfolding firstFrom
   none-first zero x h = refl
@@ -112,7 +112,8 @@ raise P x none bad a = λ z p l. go z p l (decLe (suc x) z)
     go z p l (yes h) = a z p h
     go z p l (no h) = let e : z ≡ x = omega arith in bad (rw e at p)
 
--- Where P is what the test tells of the numbers below top, and holds of no other, the first number from the floor up to top that passes is the right answer.
+-- If P is what the test tells of the numbers below top, and holds of no other, the first number from the floor up to top that passes is the right
+-- answer.
 module _ (P : ℕ → Type 0) (test : ℕ → Bool) (top : ℕ) (inside : (y : ℕ) → P y → y < top) (to : (y : ℕ) → y < top → test y ≡ true → P y) (back : (y : ℕ) → P y → test y ≡ true) where
   first-is : (n x : ℕ) → n ≡ top - x → Smallest P x (firstFrom test n x)
   unfolding firstFrom

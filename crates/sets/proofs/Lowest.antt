@@ -28,7 +28,7 @@ lowest-first (suc n) s zero h = bit-low s ∙ ⊎-elim (λ c. c .0) (λ c. absur
 lowest-first (suc n) s (suc i) h =
     bit-suc s i ∙ ⊎-elim (λ c. lowest-first n (s / 2) i (omega (arith, c .1))) (λ c. absurd (omega (arith, c .1))) (step n s)
 
--- where it is below n it is a member
+-- if it is below n, it is a member
 pub lowest-in : (n s : ℕ) → lowest n s < n → lowest n s ∈ s
 unfolding trailingZeros
 lowest-in zero s h = absurd (omega arith)
@@ -80,7 +80,7 @@ lowest-off n s h d = ext (bitAnd s (s - 1)) rest (λ i. same i (decLt i low) (�
     same i (no l) (no k) = omega (arith, parts i, bit-high (full low) low i (full-below low) (omega arith), less-other s low i k)
 
 -- One turn of a loop that visits the members of s from the lowest up, as the code has it: a is the lowest member, r the rest,
--- and `all` is what the members left behind have together.
+-- and `all` is what the members visited before have together.
 pub gathered-visit : (n : ℕ) (f : ℕ → ℕ) (all s a r : ℕ) → s < 2 ^ n → s ≢ 0 → a ≡ lowest n s → r ≡ without s (2 ^ lowest n s)
     → bitOr (bitOr all (f a)) (gathered n r f) ≡ bitOr all (gathered n s f)
 gathered-visit n f all s a r h d ea er =

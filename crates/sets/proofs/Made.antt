@@ -57,7 +57,7 @@ in-set n test i e = go (decLt i n)
     go (yes l) = (l, true-num (test i) (sym (set-bit n test i l) ∙ e))
     go (no l) = absurd (omega (arith, set-past n test i (omega arith)))
 
--- where the one test passes, the other does
+-- whenever the one test passes, the other does
 pub set-mono : (n : ℕ) (test other : ℕ → Bool) → ((i : ℕ) → i < n → test i ≡ true → other i ≡ true) → setOf n test ⊆ setOf n other
 set-mono n test other h = in-part (setOf n test) (setOf n other) (λ i e. let (l, t) = in-set n test i e in set-in n other i l (h i l t))
 
@@ -69,7 +69,7 @@ pub set-cong : (n : ℕ) (test other : ℕ → Bool) → ((i : ℕ) → i < n �
 unfolding setOf
 set-cong n test other h = sum-cong n (λ i. num (test i) * 2 ^ i) (λ i. num (other i) * 2 ^ i) (λ i l. ap (λ (t : Bool). num t * 2 ^ i) (h i l))
 
--- one turn of a loop that counts up by `u + 1` and takes u in where it passes
+-- one turn of a loop that counts up by `u + 1` and takes u in if it passes
 pub set-take : (u : ℕ) (test : ℕ → Bool) → test u ≡ true → setOf (u + 1) test ≡ bitOr (setOf u test) (2 ^ u)
 unfolding setOf sumTo
 set-take u test e =
@@ -88,7 +88,7 @@ set-turn u test = go (test-cases (test u))
     go (inl t) = set-take u test t ∙ ap (bitOr (setOf u test)) (sym (given-yes (test u) (2 ^ u) t))
     go (inr t) = set-skip u test t ∙ sym (or-zero-r (setOf u test)) ∙ ap (bitOr (setOf u test)) (sym (given-no (test u) (2 ^ u) t))
 
--- one turn of a loop that makes a set, in which u is taken in where it passed
+-- one turn of a loop that makes a set, in which u is taken in if it passed
 pub set-made : (test : ℕ → Bool) (s u r : ℕ) (passed : Bool) → s ≡ setOf u test → passed ≡ test u → r ≡ bitOr s (given passed (2 ^ u)) → r ≡ setOf (u + 1) test
 set-made test s u r passed es ep e = e ∙ ap₂ (λ (x : ℕ) (t : Bool). bitOr x (given t (2 ^ u))) es ep ∙ sym (set-turn u test)
 
@@ -127,7 +127,7 @@ union-below w (suc k) f h = or-lt w (unionTo k f) (f k) (union-below w k f (λ u
 
 -- ---- what the members of a set have together
 
--- a member of a set that stands only where a test passes
+-- a member of a set that is there only if a test passes
 pub given-in : (t : Bool) (s i : ℕ) → i ∈ given t s → (t ≡ true) × (i ∈ s)
 given-in true s i e = (refl, e)
 given-in false s i e = absurd (omega (arith, bit-empty i))
@@ -188,7 +188,7 @@ module _ (n : ℕ) (f : ℕ → ℕ) where
             gathered-mono (without s (2 ^ a)) s (λ j. omega (arith, bit-without s (2 ^ a) j)) i,
           )
 
-  -- one turn of a loop over the members: `all` is what those left behind have
+  -- one turn of a loop over the members: `all` is what those visited before have
   pub gathered-turn : (all s a : ℕ) → a < n → a ∈ s → bitOr (bitOr all (f a)) (gathered n (without s (2 ^ a)) f) ≡ bitOr all (gathered n s f)
   gathered-turn all s a l e =
       let rest = gathered n (without s (2 ^ a)) f in

@@ -60,7 +60,7 @@ pub neither : (a b : Bool) → a || b ≡ false → (a ≡ false) × (b ≡ fals
 neither true b e = absurd (true≢false e)
 neither false b e = (refl, e)
 
--- where the one passes, so does the other
+-- if the one passes, so does the other
 pub where-true : (a b : Bool) → (a ≡ true → b ≡ true) → not a || b ≡ true
 where-true true b h = h refl
 where-true false b h = refl
@@ -126,7 +126,7 @@ same-no a b d = num-false (eqb a b) (ne-eqb a b d)
 pub num-le-num : (a b c : ℕ) → b ≤ c → num (leb a b) ≤ num (leb a c)
 num-le-num a b c h = num-mono (leb a b) (leb a c) (λ e. le-leb a c (le-trans (leb-true a b e) h))
 
--- ---- where a test passes
+-- ---- x if a test passes, and else 0
 
 pub given-yes : (t : Bool) (x : ℕ) → t ≡ true → given t x ≡ x
 given-yes t x e = ap (λ (b : Bool). given b x) e
@@ -255,7 +255,7 @@ unfolding sumTo
 sum-low zero f = omega arith
 sum-low (suc k) f = omega (arith, sum-low k f)
 
--- more of the range adds what lies there: nothing, where f is 0 there
+-- more of the range adds what lies there: nothing, if f is 0 there
 pub sum-past : (n m : ℕ) (f : ℕ → ℕ) → n ≤ m → ((i : ℕ) → n ≤ i → f i ≡ 0) → sumTo m f ≡ sumTo n f
 unfolding sumTo
 sum-past n zero f l h = ap (λ (k : ℕ). sumTo k f) (let e : 0 ≡ n = omega arith in e)
@@ -287,7 +287,7 @@ sum-but (suc n) k f l = go (sum-but n k f) (below-cases l)
         )
     go r (inr h) = omega (arith, r h, other n (λ q. let z : ⊥ = omega arith in z))
 
--- where no two are above 0, the sum is at most what each is at most
+-- if no two are above 0, the sum is at most what each is at most
 pub sum-one : (n : ℕ) (f : ℕ → ℕ) (b : ℕ) → ((u : ℕ) → u < n → f u ≤ b) → ((u v : ℕ) → u < v → v < n → min (f u) (f v) ≡ 0) → sumTo n f ≤ b
 unfolding sumTo
 sum-one zero f b h one = zero-le
@@ -298,7 +298,7 @@ sum-one (suc k) f b h one =
     go zero e r = omega arith
     go (suc y) e r = omega (arith, sum-zero k f (λ u l. omega (arith, one u k l (le-refl (suc k)))), h k (le-refl (suc k)))
 
--- Where each u of the first n has a class g u of the first m and brings at most c of its class, and no two of one class bring anything,
+-- If each u of the first n has a class g u of the first m and brings at most c of its class, and no two of one class bring anything,
 -- all together bring at most what the classes add up to.
 pub sum-classes : (n m : ℕ) (g h c : ℕ → ℕ) → ((u : ℕ) → u < n → g u < m) → ((u : ℕ) → u < n → h u ≤ c (g u))
     → ((u v : ℕ) → u < v → v < n → g u ≡ g v → min (h u) (h v) ≡ 0) → sumTo n h ≤ sumTo m c

@@ -27,7 +27,7 @@ pub turned-row : (w : ℕ) (table : List ℕ) (i : ℕ) → i < w → getD (tran
 unfolding transposed
 turned-row w table i l = list-at w (turnedRow w table) 0 i l
 
--- j is in row i exactly where i was in row j
+-- j is in row i exactly if i was in row j
 pub turned-at : (w : ℕ) (table : List ℕ) (i j : ℕ) → i < w → j < w → bit (getD (transposed w table) i 0) j ≡ bit (getD table j 0) i
 turned-at w table i j li lj =
     ap (λ (s : ℕ). bit s j) (turned-row w table i li)

@@ -1,5 +1,5 @@
 -- What becomes of a set of articles (docs/RULES.md, "Sets, groups and filter"). The empty set is the number 0, and its count is that of Sets.
--- proofs/Articles.antt shows that a set stays as it is where the rules say so.
+-- proofs/Articles.antt shows that a set stays as it is whenever the rules say so.
 use mathlib.Core.Bool.{cond}
 use Prim.Native.Nat.{ℕ, _^_}
 use lib.Bits.{bitOr}

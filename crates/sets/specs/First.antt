@@ -14,7 +14,7 @@ pub record LeastFrom (P : ℕ → Type 0) (floor x : ℕ) : Type 0 where
   pub above : floor ≤ x
   pub least : (y : ℕ) → P y → floor ≤ y → x ≤ y
 
--- the right answer to "which is the smallest number at or above the floor that has P": that number, or none exactly where there is none
+-- the right answer to "which is the smallest number at or above the floor that has P": that number, or none exactly if there is none
 abbrev pub Smallest : (ℕ → Type 0) → ℕ → Option ℕ → Type 0
 Smallest P floor (some x) = LeastFrom P floor x
 Smallest P floor none = (y : ℕ) → P y → floor ≤ y → ⊥

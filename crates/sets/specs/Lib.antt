@@ -1,4 +1,4 @@
--- The words that every rule above is said with. They stand in this order:
+-- The words that every rule above is said with. They come in this order:
 -- tests and ranges of numbers; sets of numbers; tables of sets; the smallest number with a property; a set of articles.
 pub mod Ranges
 pub mod Sets

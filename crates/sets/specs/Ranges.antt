@@ -6,12 +6,12 @@ use Prim.Native.Nat.{ℕ, zero, suc, _+_, max}
 
 -- ---- tests
 
--- the bit of a test: 1 where it passes, 0 where it fails
+-- the bit of a test: 1 if it passes, 0 if it fails
 abbrev pub num : Bool → ℕ
 num true = 1
 num false = 0
 
--- x where the test passes, and 0 where it fails
+-- x if the test passes, and 0 if it fails
 abbrev pub given : Bool → ℕ → ℕ
 given true x = x
 given false x = 0
@@ -33,7 +33,7 @@ unfoldable pub sumTo : ℕ → (ℕ → ℕ) → ℕ
 sumTo zero f = 0
 sumTo (suc k) f = sumTo k f + f k
 
--- the greatest of f 0, f 1, .. f (n - 1); 0 where n is 0
+-- the greatest of f 0, f 1, .. f (n - 1); 0 if n is 0
 unfoldable pub maxTo : ℕ → (ℕ → ℕ) → ℕ
 maxTo zero f = 0
 maxTo (suc k) f = max (maxTo k f) (f k)

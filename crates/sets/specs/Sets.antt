@@ -1,6 +1,6 @@
--- Sets of numbers as numbers (docs/RULES.md, "Job files"): i is a member of s exactly where bit i of s is 1.
+-- Sets of numbers as numbers (docs/RULES.md, "Job files"): i is a member of s exactly if bit i of s is 1.
 -- A bit is a number, 0 or 1, so that linear arithmetic does the reasoning on sets. No definition here knows a width:
--- a number has as many bits as one asks for, and where a range is meant its length n is a parameter.
+-- a number has as many bits as one asks for, and if a range is meant, its length n is a parameter.
 use mathlib.Core.Path.{_≡_}
 use mathlib.Core.Bool.{Bool, not, _||_}
 use Prim.Native.Nat.{ℕ, zero, suc, _+_, _-_, _*_, _/_, _%_, _^_, _≤_}
@@ -12,7 +12,7 @@ use Rattle.sets.specs.Ranges.{num, given, everyTo, sumTo}
 infix 40 _∈_ _⊆_
 -- ---- members
 
--- bit i of s: 1 where i is a member, and 0 where it is not
+-- bit i of s: 1 if i is a member, and 0 if it is not
 unfoldable pub bit : ℕ → ℕ → ℕ
 bit s i = s / 2 ^ i % 2
 
@@ -57,13 +57,13 @@ unfoldable pub unionTo : ℕ → (ℕ → ℕ) → ℕ
 unionTo zero f = 0
 unionTo (suc k) f = bitOr (unionTo k f) (f k)
 
--- what the members of s below n have together, where i has the set f i
+-- what the members of s below n have together, if each i has the set f i
 unfoldable pub gathered : ℕ → ℕ → (ℕ → ℕ) → ℕ
 gathered n s f = unionTo n (λ i. given (member s i) (f i))
 
 -- ---- what a set tells
 
--- how many of the d lowest bits of s are 1. It stops where no bit is left, so that it computes at any width
+-- how many of the d lowest bits of s are 1. It stops when no bit is left, so that it computes at any width
 unfoldable pub countIn : ℕ → ℕ → ℕ
 countIn zero s = 0
 countIn (suc d) zero = 0
@@ -73,6 +73,6 @@ countIn (suc d) (suc s) = suc s % 2 + countIn d (suc s / 2)
 unfoldable pub count : ℕ → ℕ
 count s = countIn s s
 
--- the lowest member of s below n, and n where there is none
+-- the lowest member of s below n, and n if there is none
 abbrev pub lowest : ℕ → ℕ → ℕ
 lowest n s = trailingZeros n s

@@ -4,7 +4,7 @@ ghost use Prim.Native.Nat.{_+_, _≤_};
 ghost use lib.ListN.{length};
 ghost use lib.Seq.{paste};
 
-// The first n words, to the places from `at` on. Words at other places keep.
+// The first n words, to the places from `at` on. Words at other places stay as they are.
 pub fn words(to: &mut [u64], at: usize, from: &[u64], n: usize)
     requires { ⌜ (at + n ≤ length (now to)) × (n ≤ length (now from)) ⌝ }
     ensures { λ r. ⌜ now (to .exit) ≡ paste (now (to .entry)) at (now (from .entry)) n ⌝ }

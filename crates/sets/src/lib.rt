@@ -1,7 +1,7 @@
 // Sets of articles, and the operations on words that the crates above share.
 //
-// A set is a number: bit i is 1 where i is a member. The definitions stand in specs/, for any
-// width; here they meet words of 64 bits.
+// A set is a number: bit i is 1 if i is a member. The definitions are in specs/, for any width; here
+// they meet words of 64 bits.
 ghost use mathlib.Core.Path.{_≡_};
 ghost use mathlib.Core.Bool.{cond};
 ghost use Prim.Native.Nat.{_^_};
@@ -13,7 +13,7 @@ pub mod copy;
 pub mod table;
 pub mod word;
 
-// The set whose one member is the article; the empty set where that is at or above the capacity.
+// The set whose one member is the article; the empty set if that is at or above the capacity.
 fn alone(article: usize) -> u64
     ensures { λ r. ⌜ r ≡ cond (ltb article 64) (2 ^ article) 0 ⌝ }
 {

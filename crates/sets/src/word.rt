@@ -47,7 +47,7 @@ pub fn less(s: u64, i: usize) -> u64
     without(s, unit(i))
 }
 
-// s, with the member i where the test passed.
+// s, with the member i if the test passed.
 pub fn more_if(s: u64, i: usize, passed: bool) -> u64
     requires { ⌜ i < 64 ⌝ }
     ensures { λ r. ⌜ r ≡ bitOr s (given passed (2 ^ i)) ⌝ }

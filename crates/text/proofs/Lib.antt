@@ -1,2 +1,2 @@
--- The laws behind the text.
+-- The laws that the text rests on.
 pub mod TextLaws

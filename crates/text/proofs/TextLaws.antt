@@ -22,24 +22,24 @@ cut-again (suc n) [] b = refl
 cut-again (suc n) (x ∷ a) b = ap (λ (r : List ℕ). x ∷ r) (cut-again n a b)
 
 module _ (n : ℕ) where
-  -- t behind a page with the text p
+  -- t after the text p of a page
   then : (p q r t : List ℕ) → q ≡ take n p → r ≡ take n (q ++ t) → r ≡ take n (p ++ t)
   then p q r t e f = f ∙ ap (λ (x : List ℕ). take n (x ++ t)) e ∙ cut-again n p t
 
-  -- t behind a page with the texts p and s
+  -- t after the texts p and s of a page
   behind : (p q r s t : List ℕ) → q ≡ take n (p ++ s) → r ≡ take n (q ++ t) → r ≡ take n (p ++ (s ++ t))
   behind p q r s t e f = then (p ++ s) q r t e f ∙ ap (λ (x : List ℕ). take n x) (append-assoc p s t)
 
-  -- a text that has room stands whole
+  -- a text that has room is there as a whole
   has-room : (r t : List ℕ) → r ≡ take n t → length t ≤ n → r ≡ t
   has-room r t e l = e ∙ take-all n t l
 
   module _ (bytes : List ℕ) (at : ℕ) (long : length bytes ≡ n) where
-    -- nothing behind a page
+    -- nothing after the text of a page
     pub stays : take at bytes ≡ take n (take at bytes ++ [])
     stays = sym (take-all n (take at bytes ++ []) (omega (arith, length-append (take at bytes) [], length-take at bytes)) ∙ append-nil (take at bytes))
 
-    -- a byte behind a page with room, and behind a full one
+    -- a byte after the text of a page with room, and of a full one
     pub put-room : (byte : ℕ) → at < n → take (at + 1) (set bytes at byte) ≡ take n (take at bytes ++ (byte ∷ []))
     put-room byte l =
         ap (λ (k : ℕ). take k (set bytes at byte)) (add-one at)
@@ -51,7 +51,7 @@ module _ (n : ℕ) where
         let e : take at bytes ≡ bytes = take-all at bytes (omega arith) in
         e ∙ sym (ap (λ (x : List ℕ). take n (x ++ (byte ∷ []))) e ∙ take-append-le n bytes (byte ∷ []) (omega arith) ∙ take-all n bytes (omega arith))
 
-  -- ---- loops that write behind a page with the text p
+  -- ---- loops that write after the text p of a page
 
   -- one byte more of a text
   pub say-turn : (p q r text : List ℕ) (i : ℕ) → i < length text → q ≡ take n (p ++ take i text) → r ≡ take n (q ++ (getD text i 0 ∷ [])) → r ≡ take n (p ++ take (i + 1) text)
@@ -76,7 +76,7 @@ module _ (n : ℕ) where
 
 -- ---- the digits of a number
 
--- `most` does not matter where it is above the number
+-- `most` does not matter if it is above the number
 digits-same : (a b n : ℕ) → n < a → n < b → digits a n ≡ digits b n
 unfolding digits
 digits-same zero b n l m = absurd (omega arith)
@@ -99,7 +99,7 @@ more-digits : (n : ℕ) → 10 ≤ n → decimal n ≡ decimal (n / 10) ++ ((48 
 unfolding digits
 more-digits n l = simp (le-ltb n 10 l) (ap (λ (x : List ℕ). x ++ ((48 + n % 10) ∷ [])) (digits-same n (suc (n / 10)) (n / 10) (omega arith) (omega arith)))
 
--- ---- what the functions write, on a page of n bytes, behind the text p
+-- ---- what the functions write, on a page of n bytes, after the text p
 
 module _ (n : ℕ) (p : List ℕ) where
   pub number-one : (r : List ℕ) (m d : ℕ) → m < 10 → d ≡ 48 + m → r ≡ take n (p ++ (d ∷ [])) → r ≡ take n (p ++ decimal m)
@@ -170,7 +170,7 @@ chosen-fits selection aside = simp length-append (omega (arith, members-short 64
 pub rounds-fits : (k : ℕ) (words : List ℕ) → k ≤ 16 → length (roundsText 32 k words) ≤ 2048
 rounds-fits k words l = simp length-append (omega (arith, digits-short 1 (suc k) k (omega arith), rounds-short k words (omega arith)))
 
--- ---- whole texts: parts that are written one behind the other on an empty page of n bytes
+-- ---- whole texts: parts that are written one after the other on an empty page of n bytes
 
 module _ (n : ℕ) (s t u v o a b c d : List ℕ) (empty : o ≡ []) (first : a ≡ take n (o ++ s)) (second : b ≡ take n (a ++ t)) (third : c ≡ take n (b ++ u)) (fourth : d ≡ take n (c ++ v)) where
   four : d ≡ take n (s ++ t ++ u ++ v)

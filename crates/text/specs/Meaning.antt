@@ -8,6 +8,6 @@ use Rattle.text.specs.declared.Page.{Page}
 abbrev pub shown : Page → List ℕ
 shown page = take (page .len) (page .bytes)
 
--- a text behind that of a page, as far as there is room
+-- a text after that of a page, as far as there is room
 abbrev pub extended : Page → List ℕ → List ℕ
 extended page text = take 2048 (shown page ++ text)

@@ -8,7 +8,7 @@ use Rattle.sets.specs.Sets.{member}
 
 -- ---- numbers and sets
 
--- the decimal digits of a number: the last one stands behind those of its tenth. A number has at most as many digits as it counts, and one more
+-- the decimal digits of a number: the last one comes after those of its tenth. A number n has at most n + 1 digits
 unfoldable pub digits : ℕ → ℕ → List ℕ
 digits zero n = []
 digits (suc most) n = cond (ltb n 10) ((48 + n) ∷ []) (digits most (n / 10) ++ ((48 + n % 10) ∷ []))

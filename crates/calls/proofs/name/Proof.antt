@@ -1,4 +1,4 @@
--- `calls::name` meets its contract: the name is what stands at its spot.
+-- `calls::name` meets its contract: the name is the bytes at its spot.
 use borrow.Author.Needs.{needs}
 use mathlib.Core.Path.{_≡_, sym, ap, _∙_}
 use Prim.Native.Nat.{ℕ, _+_, _-_}

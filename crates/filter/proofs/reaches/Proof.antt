@@ -1,4 +1,4 @@
--- `filter::reaches` meets its contract. The two comparisons are told apart by numbers: where they differ, `omega` names some.
+-- `filter::reaches` meets its contract. The two comparisons are told apart by numbers: if they differ, `omega` names some.
 use borrow.Author.Needs.{needs}
 use Prim.Native.Nat.{_+_}
 use native.Mathlib.Omega.{arith}

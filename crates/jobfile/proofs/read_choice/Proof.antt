@@ -1,4 +1,4 @@
--- `jobfile::read_choice` meets its contract: the items that it reads are those of the definition, one behind the other.
+-- `jobfile::read_choice` meets its contract: the items that it reads are those of the definition, one after the other.
 use borrow.Author.Needs.{needs}
 use native.Mathlib.Omega.{arith}
 use Rattle.jobfile.proofs.ReadLaws.{choice-refused, choice-accepted}

@@ -1,4 +1,4 @@
--- `reading::number` meets its contract. Each number is compared as such: where two differ, `omega` names the one that is due.
+-- `reading::number` meets its contract. Each number is compared as such: if two differ, `omega` names the one that is due.
 use borrow.Author.Needs.{needs}
 use mathlib.Core.Path.{ap}
 use native.Mathlib.Omega.{arith}

@@ -1,4 +1,4 @@
--- `text::chosen` meets its contract: its five parts stand one behind the other, and there is room for them.
+-- `text::chosen` meets its contract: its five parts come one after the other, and there is room for them.
 use borrow.Author.Needs.{needs}
 use Rattle.text.proofs.TextLaws.{five-parts, chosen-fits}
 use Rattle.text.proofs.chosen.Statement.{statement}

@@ -1,4 +1,4 @@
--- `text::one` meets its contract: the member stands behind the text of the page, or the page stays as it is.
+-- `text::one` meets its contract: the member comes after the text of the page, or the page stays as it is.
 use borrow.Author.Needs.{needs}
 use Rattle.text.specs.Meaning.{shown}
 use Rattle.text.proofs.TextLaws.{stays, one-member, no-member}

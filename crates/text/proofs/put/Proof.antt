@@ -1,4 +1,4 @@
--- `text::put` meets its contract: the byte stands behind the text on a page with room, and a full page stays as it is.
+-- `text::put` meets its contract: the byte comes after the text on a page with room, and a full page stays as it is.
 use borrow.Author.Needs.{needs}
 use Rattle.text.proofs.TextLaws.{put-room, put-full}
 use Rattle.text.proofs.put.Statement.{statement}

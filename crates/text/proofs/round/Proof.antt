@@ -1,4 +1,4 @@
--- `text::round` meets its contract: its four parts stand one behind the other.
+-- `text::round` meets its contract: its four parts come one after the other.
 use borrow.Author.Needs.{needs}
 use Rattle.text.specs.Meaning.{shown}
 use Rattle.text.proofs.TextLaws.{round-made}

@@ -1,5 +1,5 @@
--- `text::rounds` meets its contract: the three parts of the first line and the rounds stand one behind the other, and there is room for them.
--- The invariant: the rounds before i stand behind the first line. The measure is how many are left.
+-- `text::rounds` meets its contract: the three parts of the first line and the rounds come one after the other, and there is room for them.
+-- The invariant: the rounds before i come after the first line. The measure is how many are left.
 use borrow.Author.Needs.{needs}
 use mathlib.Core.Path.{_≡_, ap, _∙_}
 use Prim.Native.Nat.{ℕ, _-_, _≤_}

@@ -1,4 +1,4 @@
--- `text::say` meets its contract. The invariant: the bytes in front of byte i stand behind the text of the page. The measure is how many are left.
+-- `text::say` meets its contract. The invariant: the bytes in front of byte i come after the text of the page. The measure is how many are left.
 use borrow.Author.Needs.{needs}
 use mathlib.Core.Path.{_≡_}
 use Prim.Native.Nat.{_-_, _≤_}

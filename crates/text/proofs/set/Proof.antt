@@ -1,4 +1,4 @@
--- `text::set` meets its contract. The invariant: the members below i stand behind the text of the page. The measure is how many numbers are left.
+-- `text::set` meets its contract. The invariant: the members below i come after the text of the page. The measure is how many numbers are left.
 use borrow.Author.Needs.{needs}
 use mathlib.Core.Path.{_≡_, ap, _∙_}
 use Prim.Native.Nat.{ℕ, _-_, _≤_}

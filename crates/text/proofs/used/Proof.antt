@@ -1,4 +1,4 @@
--- `text::used` meets its contract: behind a full page there is nothing.
+-- `text::used` meets its contract: after a full page there is nothing.
 use borrow.Author.Needs.{needs}
 use mathlib.Core.Path.{_≡_, sym, _∙_}
 use native.Mathlib.Omega.{arith}

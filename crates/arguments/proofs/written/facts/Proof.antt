@@ -1,4 +1,4 @@
--- `arguments::written::facts` meets its contract. The invariant: the words in front of word i are written, and the others keep.
+-- `arguments::written::facts` meets its contract. The invariant: the words in front of word i are written, and the others are as they were.
 use borrow.Author.Needs.{needs}
 use mathlib.Core.Path.{_≡_, refl}
 use Prim.Native.Nat.{_+_, _-_, _≤_, _<_}

@@ -1,4 +1,4 @@
--- `jobfile::records::article` meets its contract: the definition's items, one behind the other, are those of the code.
+-- `jobfile::records::article` meets its contract: the definition's items, one after the other, are those of the code.
 use borrow.Author.Needs.{needs}
 use mathlib.Core.Path.{refl}
 use mathlib.Core.List.{[], _∷_}

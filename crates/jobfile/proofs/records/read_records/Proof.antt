@@ -1,6 +1,6 @@
--- `jobfile::records::read_records` meets its contract. The invariant, `Filled`: the records read stand in the columns, and what is left is read from the cursor on.
+-- `jobfile::records::read_records` meets its contract. The invariant, `Filled`: the records read are in the columns, and what is left is read from
+-- the cursor on. The measure is how many records are left.
 use borrow.Author.Needs.{needs}
--- The measure is how many records are left.
 use Prim.Native.Nat.{_-_}
 use Rattle.jobfile.proofs.ColumnLaws.{Filled, records-start, records-turn, records-end}
 use Rattle.jobfile.proofs.records.read_records.Statement.{statement}

@@ -1,4 +1,4 @@
--- `ArticleSet::empty` meets its contract: its number is 0 as it stands.
+-- `ArticleSet::empty` meets its contract: its number is 0 as it is written.
 use mathlib.Core.Path.{refl}
 use Rattle.sets.proofs.ArticleSet.empty.Statement.{statement}
 use Rattle.sets.proofs.ArticleSet.empty.Tie as tie
