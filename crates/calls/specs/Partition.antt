@@ -1,4 +1,4 @@
--- Our own partition of a choice file (docs/RULES.md, "Partition"): a buffer for the groups is lent.
+-- Our own partition of a choice file (docs/RULES.md, "Sets, groups and filter"): a buffer for the groups is lent.
 use mathlib.Core.List.{List}
 use Prim.Native.Nat.{ℕ}
 use lib.ListN.{length}

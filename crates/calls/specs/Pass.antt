@@ -1,4 +1,4 @@
--- A pass of the filter on a choice file (docs/RULES.md, "Filter pass"): groups, a live set and one projection goal are lent.
+-- A pass of the filter on a choice file (docs/RULES.md, "Sets, groups and filter"): groups, a live set and one projection goal are lent.
 use mathlib.Core.List.{List}
 use Prim.Native.Nat.{ℕ}
 use lib.ListN.{getD}

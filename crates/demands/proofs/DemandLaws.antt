@@ -304,7 +304,7 @@ module _ {A B : Type 0} (words : A → List ℕ) (told : A → B) (old : List �
   left-kept (refusal r p) e = refl
   left-kept (value x) e = absurd (no-refusal e)
 
-  -- if it is accepted, n words are written in front
+  -- if it has a value, n words are written in front
   pub left-value : {a : Answer A} {x : A} {n : ℕ} → a ≡ value x → length (words x) ≡ n → (leaving words told old a .answer ≡ answered (told x)) × (leaving words told old a .buffer ≡ words x ++ drop n old)
   left-value {x = x} e l = (ap (λ (a : Answer A). leaving words told old a .answer) e, ap (λ (a : Answer A). leaving words told old a .buffer) e ∙ ap (λ (n : ℕ). words x ++ drop n old) l)
 

@@ -1,4 +1,4 @@
--- The projection filter (docs/RULES.md, "Filter pass"; 001, definitions 3 and 4). Groups, live set and projection goal are given.
+-- The projection filter (docs/RULES.md, "Sets, groups and filter"; 001, definitions 3 and 4). Groups, live set and projection goal are given.
 use mathlib.Core.Bool.{Bool, not, _&&_, _||_}
 use mathlib.Core.List.{List, [], _∷_}
 use mathlib.Core.Option.{Option}

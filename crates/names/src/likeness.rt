@@ -1,4 +1,4 @@
-// The sets of files that were read.
+// Whether two choice files that were read are alike.
 ghost use mathlib.Core.Path.{_≡_};
 ghost use mathlib.Core.Bool.{_&&_};
 ghost use lib.Dec.{eqb};

@@ -1,4 +1,4 @@
--- The laws of the definitions, for every width. A crate above cites them by name and looks into no definition.
+-- The laws of the definitions, for every width. A crate above cites them by name, and looks into a definition only if no law says what it needs.
 pub mod Ranges
 pub mod Bits
 pub mod Made

@@ -1,4 +1,4 @@
--- `names::names::same_name` meets its contract. The invariant: the bytes before i are the same.
+-- `names::same_name` meets its contract. The invariant: the bytes before i are the same.
 use borrow.Author.Needs.{needs}
 use mathlib.Core.Path.{_≡_}
 use Prim.Native.Nat.{ℕ, _-_, _≤_, _<_}

@@ -1,4 +1,4 @@
--- `names::names::search` meets its contract. The invariant: the numbers before those that are left do not have the name.
+-- `names::search` meets its contract. The invariant: the numbers before those that are left do not have the name.
 use borrow.Author.Needs.{needs}
 use mathlib.Core.Path.{_≡_, sym, ap, _∙_}
 use mathlib.Core.Bool.{Bool}
