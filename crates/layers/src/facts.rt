@@ -11,6 +11,7 @@ ghost use Rattle.sets.specs.Tables.{transposed};
 ghost use Rattle.planning.specs.Rounds.{listedSteps};
 ghost use Rattle.planning.specs.Layers.{mutexWord, mutexes, excluded};
 ghost use Rattle.layers.specs.Meaning.{layer};
+use crate::ALL_FACTS;
 use crate::FACTS;
 use sets::word;
 
@@ -18,7 +19,7 @@ use sets::word;
 fn common(words: &[u64; 64], set: u64) -> u64
     ensures { λ r. ⌜ r ≡ setOf 64 (λ y. everyTo 64 (λ x. not (member set x) || member (getD (now (words .entry)) x 0) y)) ⌝ }
 {
-    let mut all: u64 = 0xffff_ffff_ffff_ffff;
+    let mut all: u64 = word::ALL;
     let mut left = set;
     while left != 0 {
         let x = word::lowest(left);
@@ -68,7 +69,7 @@ fn row(
     let against = common(words, givers);
     let near = word::gather(gives, against);
     let shared = word::gather(gives, givers);
-    let likely = word::without(others & near & 0xffff_ffff, shared);
+    let likely = word::without(others & near & ALL_FACTS, shared);
     let free = word::without(members, against);
     ungiven(turned, free, likely)
 }

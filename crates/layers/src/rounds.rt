@@ -11,6 +11,7 @@ ghost use Rattle.planning.specs.Rounds.{listedSteps};
 ghost use Rattle.planning.specs.Layers.{mutexWord, mutexes, stands, standing, rivals};
 ghost use Rattle.layers.specs.Meaning.{layer, uses, Turned};
 use crate::FACTS;
+use crate::VERTICES;
 use sets::table;
 use sets::word;
 
@@ -49,7 +50,7 @@ fn used(needs: &[u64; 64], gives: &[u64; 64]) -> [u64; 64]
 {
     let mut all: [u64; 64] = [0; 64];
     let mut x: usize = 0;
-    while x < 64 {
+    while x < VERTICES {
         all[x] = needs[x] | gives[x];
         x += 1;
     }
@@ -110,7 +111,7 @@ pub fn words(
     let needers = table::transposed(needs);
     let mut all: [u64; 64] = [0; 64];
     let mut x: usize = 0;
-    while x < 64 {
+    while x < VERTICES {
         all[x] = row(
             needs,
             gives,

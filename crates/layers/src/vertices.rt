@@ -4,6 +4,7 @@ ghost use Prim.Native.Nat.{_<_};
 ghost use Rattle.sets.specs.Ranges.{listTo};
 ghost use Rattle.layers.specs.Meaning.{vertexWords};
 use crate::FACTS;
+use crate::VERTICES;
 use sets::word;
 
 // What vertex x has: a keeper its own fact, or nothing; a step its word.
@@ -22,7 +23,7 @@ pub fn table(steps: &[u64; 64], kept: bool) -> [u64; 64]
 {
     let mut words: [u64; 64] = [0; 64];
     let mut x: usize = 0;
-    while x < 64 {
+    while x < VERTICES {
         words[x] = entry(steps, kept, x);
         x += 1;
     }

@@ -2,6 +2,7 @@
 ghost use mathlib.Core.Path.{_≡_};
 ghost use Rattle.network.specs.Tables.{bothWays};
 use sets::table;
+use sets::word;
 
 // All that each article clashes with. A row is read by a reference, which tells that it fits a word.
 pub fn both_ways(clashes: &[u64; 64]) -> [u64; 64]
@@ -10,7 +11,7 @@ pub fn both_ways(clashes: &[u64; 64]) -> [u64; 64]
     let named_by = table::transposed(clashes);
     let mut both: [u64; 64] = [0; 64];
     let mut u: usize = 0;
-    while u < 64 {
+    while u < word::WIDTH {
         let said = &clashes[u];
         both[u] = *said | named_by[u];
         u += 1;

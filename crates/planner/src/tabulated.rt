@@ -10,9 +10,10 @@ use crate::ROUNDS;
 use jobfile::ReadFitting;
 use layers::Layer;
 use sets::copy;
+use supports::ROW;
 
-// The mutex words of all round layers: 64 for each, one for each vertex.
-const WORDS: usize = 64 * ROUNDS;
+// The mutex words of all round layers.
+const WORDS: usize = ROW * ROUNDS;
 
 // The vertices of each round layer, and its mutex words.
 pub struct RoundLayers {
@@ -25,7 +26,7 @@ fn put(words: &mut [u64], j: usize, row: &[u64; 64])
     requires { ⌜ (j < 16) × (64 * j + 64 ≤ length (now words)) ⌝ }
     ensures { λ r. ⌜ now (words .exit) ≡ paste (now (words .entry)) (64 * j) (now (row .entry)) 64 ⌝ }
 {
-    copy::words(words, 64 * j, row, 64);
+    copy::words(words, ROW * j, row, ROW);
 }
 
 // The round layers 1 to the horizon.

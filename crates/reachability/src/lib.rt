@@ -21,8 +21,8 @@ const SLOTS: usize = 32768;
 // The most slots that are looked at for one state.
 const PROBES: usize = 16;
 
-// The slot of a state is made from its bits below this one, which are those of the 32 facts.
-const FACTS: u64 = 0x1_0000_0000;
+// There are this many sets of 32 facts; a slot is made from the facts of a state alone.
+const FACT_SETS: u64 = 0x1_0000_0000;
 
 // The slot is made from the product with this prime, which is near 2^32 divided by the golden ratio:
 // states whose numbers are close together get slots that are far apart.
@@ -50,7 +50,7 @@ fn after(facts: u64, gives: u64, takes: u64) -> u64
 fn slot_of(state: u64) -> usize
     ensures { λ r. ⌜ r < 32768 ⌝ }
 {
-    let mixed = (state % FACTS) * MULTIPLIER;
+    let mixed = (state % FACT_SETS) * MULTIPLIER;
     (mixed / LOWEST % (SLOTS as u64)) as usize
 }
 

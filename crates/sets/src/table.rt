@@ -24,7 +24,7 @@ pub fn transposed(table: &[u64; 64]) -> [u64; 64]
 {
     let mut turned: [u64; 64] = [0; 64];
     let mut j: usize = 0;
-    while j < 64 {
+    while j < word::WIDTH {
         mark(&mut turned, table[j], j);
         j += 1;
     }

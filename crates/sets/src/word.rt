@@ -8,6 +8,12 @@ ghost use lib.ListN.{getD};
 ghost use Rattle.sets.specs.Ranges.{given};
 ghost use Rattle.sets.specs.Sets.{bit, without, full, count, lowest, gathered};
 
+// The bits of a word: the members of a set are below this number.
+pub const WIDTH: usize = 64;
+
+// The set of all these numbers.
+pub const ALL: u64 = 0xffff_ffff_ffff_ffff;
+
 // The set whose one member is i.
 pub fn unit(i: usize) -> u64
     requires { ⌜ i < 64 ⌝ }
@@ -62,7 +68,7 @@ pub fn more_if(s: u64, i: usize, passed: bool) -> u64
 pub fn exceeds(s: u64, limit: usize) -> bool
     ensures { λ r. ⌜ r ≡ leb (2 ^ limit) s ⌝ }
 {
-    if 64 <= limit {
+    if WIDTH <= limit {
         return false;
     }
     (s >> limit) != 0
@@ -73,8 +79,8 @@ pub fn full(n: usize) -> u64
     requires { ⌜ n ≤ 64 ⌝ }
     ensures { λ r. ⌜ r ≡ full n ⌝ }
 {
-    if n == 64 {
-        return 0xffff_ffff_ffff_ffff;
+    if n == WIDTH {
+        return ALL;
     }
     unit(n) - 1
 }

@@ -14,6 +14,9 @@ use choice::Found;
 use sets::copy;
 use sets::word;
 
+// The mutex words of one round layer: one for each vertex.
+pub const ROW: usize = 64;
+
 // Whether the needs of a vertex lie in the facts.
 fn allows(needs: &[u64; 64], v: usize, may: u64) -> bool
     requires { ⌜ v < 64 ⌝ }
@@ -42,9 +45,9 @@ fn row(words: &[u64], j: usize) -> [u64; 64]
     requires { ⌜ (j < 16) × (64 * j + 64 ≤ length (now words)) ⌝ }
     ensures { λ r. ⌜ r ≡ rowOf (now (words .entry)) j ⌝ }
 {
-    let at = 64 * j;
+    let at = ROW * j;
     let mut all: [u64; 64] = [0; 64];
-    copy::words(&mut all, 0, &words[at..], 64);
+    copy::words(&mut all, 0, &words[at..], ROW);
     all
 }
 

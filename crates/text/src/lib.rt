@@ -20,6 +20,18 @@ const STEPS: usize = 32;
 
 const HORIZON: usize = 16;
 
+// The bytes of characters: the digit 0, a blank, a colon, the end of a line.
+const ZERO: u8 = 48;
+
+const BLANK: u8 = 32;
+
+const COLON: u8 = 58;
+
+const NEWLINE: u8 = 10;
+
+// Numbers are written with ten digits.
+const TEN: u64 = 10;
+
 // The bytes of a text are the first `len`.
 pub struct Page {
     pub bytes: [u8; ROOM],
@@ -79,16 +91,16 @@ fn digit(n: u64) -> u8
     requires { ⌜ n < 10 ⌝ }
     ensures { λ r. ⌜ r ≡ 48 + n ⌝ }
 {
-    48 + n as u8
+    ZERO + n as u8
 }
 
 fn number(page: Page, n: u64) -> Page
     ensures { λ r. ⌜ shown r ≡ extended page (decimal n) ⌝ }
 {
-    if n < 10 {
+    if n < TEN {
         return put(page, digit(n));
     }
-    put(number(page, n / 10), digit(n % 10))
+    put(number(page, n / TEN), digit(n % TEN))
 }
 
 // Member i of a set, if it is one.
@@ -97,7 +109,7 @@ fn one(page: Page, s: u64, i: usize) -> Page
     ensures { λ r. ⌜ shown r ≡ extended page (cond (member s i) (32 ∷ decimal i) []) ⌝ }
 {
     if word::bit_at(s, i) == 1 {
-        return number(put(page, 32), i as u64);
+        return number(put(page, BLANK), i as u64);
     }
     page
 }
@@ -123,7 +135,7 @@ pub fn refused(reason: u64, place: u64) -> Page
     let b = number(a, reason);
     let c = say(b, b" at ");
     let d = number(c, place);
-    put(d, 10)
+    put(d, NEWLINE)
 }
 
 pub fn chosen(selection: u64, aside: u64) -> Page
@@ -133,7 +145,7 @@ pub fn chosen(selection: u64, aside: u64) -> Page
     let b = set(a, selection, ARTICLES);
     let c = say(b, b"\naside");
     let d = set(c, aside, ARTICLES);
-    put(d, 10)
+    put(d, NEWLINE)
 }
 
 // Round i + 1.
@@ -142,9 +154,9 @@ fn round(page: Page, i: usize, steps: u32) -> Page
     ensures { λ r. ⌜ shown r ≡ extended page (roundText 32 i steps) ⌝ }
 {
     let a = number(page, i as u64 + 1);
-    let b = put(a, 58);
+    let b = put(a, COLON);
     let c = set(b, steps as u64, STEPS);
-    put(c, 10)
+    put(c, NEWLINE)
 }
 
 pub fn rounds(k: usize, words: &[u32; HORIZON]) -> Page
@@ -153,7 +165,7 @@ pub fn rounds(k: usize, words: &[u32; HORIZON]) -> Page
 {
     let a = say(empty(), b"rounds ");
     let b = number(a, k as u64);
-    let mut done = put(b, 10);
+    let mut done = put(b, NEWLINE);
     let mut i: usize = 0;
     while i < k {
         done = round(done, i, words[i]);
