@@ -28,7 +28,7 @@ CHECKS = {
     "assumptions_as_stated": 1 + THERE["programs"],
     "trace": 851,
     "promises": THERE["theorems of the demands"],
-    "documents": 433,
+    "documents": 435,
     "second_program": 633,
     "kitchen_prints": 2_800,
     "small_stack": 47,

@@ -56,7 +56,7 @@ module _ (f : List ℕ) (kind : Kind) (count n : ℕ) (from : Cursor) where
   rest i done at = after done (eachAt item (upFrom (n - i) i) f at)
 
   -- the loop's invariant, when it is about to read record i
-  pub record Filled (first second third starts lens : List ℕ) (next : Cursor) (i : ℕ) : Type 0 where
+  pub record ColumnsFilled (first second third starts lens : List ℕ) (next : Cursor) (i : ℕ) : Type 0 where
     pub upto : i ≤ n
     pub read : readFrom from (eachAt item (upFrom n 0) f) ≡ readFrom next (rest i (listTo i (recordFrom kind first second third starts lens)))
     pub firsts : Column i first
@@ -70,7 +70,7 @@ module _ (f : List ℕ) (kind : Kind) (count n : ℕ) (from : Cursor) where
   tidy-none size Choice = (refl, zero-le)
   tidy-none size Fitting = zero-le
 
-  pub records-start : let zeros = replicate {A = ℕ} 64 0 in Filled zeros zeros zeros zeros zeros from 0
+  pub records-start : let zeros = replicate {A = ℕ} 64 0 in ColumnsFilled zeros zeros zeros zeros zeros from 0
   unfolding listTo
   records-start = record {
     upto = zero-le;
@@ -87,9 +87,9 @@ module _ (f : List ℕ) (kind : Kind) (count n : ℕ) (from : Cursor) where
       whole (refused reason place) = refl
       whole (got xs b) = refl
 
-  pub records-turn : (first second third starts lens : List ℕ) (next : Cursor) (i : ℕ) (r : Found.Record) → Filled first second third starts lens next i → i < n → n ≤ 64
+  pub records-turn : (first second third starts lens : List ℕ) (next : Cursor) (i : ℕ) (r : Found.Record) → ColumnsFilled first second third starts lens next i → i < n → n ≤ 64
       → recordOf kind r ≡ readFrom next (recordAt spots (layoutBy kind) count i f) → Tidy kind (length f) (r .third) (r .spot .start) (r .spot .len)
-      → Filled (set first i (r .first)) (set second i (r .second)) (set third i (r .third)) (set starts i (r .spot .start)) (set lens i (r .spot .len)) (r .next) (i + 1)
+      → ColumnsFilled (set first i (r .first)) (set second i (r .second)) (set third i (r .third)) (set starts i (r .spot .start)) (set lens i (r .spot .len)) (r .next) (i + 1)
   unfolding eachAt upFrom
   records-turn first second third starts lens next i r so l room e t = record {
     upto = omega arith;
@@ -158,12 +158,12 @@ module _ (f : List ℕ) (kind : Kind) (count n : ℕ) (from : Cursor) where
       tidied j (no d) =
           rw (getD-set-other third i j (r .third) 0 d, getD-set-other starts i j (r .spot .start) 0 d, getD-set-other lens i j (r .spot .len) 0 d) (so .tidy j)
 
-  pub records-end : (r : Records) (i : ℕ) → Filled (r .first) (r .second) (r .third) (r .starts) (r .lens) (r .next) i → n ≤ i
+  pub records-end : (r : Records) (i : ℕ) → ColumnsFilled (r .first) (r .second) (r .third) (r .starts) (r .lens) (r .next) i → n ≤ i
       → (recordsOf kind n r ≡ readFrom from (eachAt (recordAt spots (layoutBy kind) count) (upFrom n 0) f)) × Columns kind n (length f) r
   unfolding eachAt upFrom
   records-end r i so h =
       let e : i ≡ n = omega (arith, so .upto) in
-      let filled : Filled (r .first) (r .second) (r .third) (r .starts) (r .lens) (r .next) n = subst (λ (k : ℕ). Filled (r .first) (r .second) (r .third) (r .starts) (r .lens) (r .next) k) e so in (
+      let filled : ColumnsFilled (r .first) (r .second) (r .third) (r .starts) (r .lens) (r .next) n = subst (λ (k : ℕ). ColumnsFilled (r .first) (r .second) (r .third) (r .starts) (r .lens) (r .next) k) e so in (
         sym (filled .read ∙ same-from (r .next) _ (λ at. got (listTo n (recordFrom kind (r .first) (r .second) (r .third) (r .starts) (r .lens))) at) (λ at. let k : n - n ≡ 0 = omega arith in rw k (rw append-nil)) ∙ settled _ (r .next)),
         record { first = filled .firsts; second = filled .seconds; third = filled .thirds; starts = filled .starting; lens = filled .lengths; tidy = filled .tidy },
       )

@@ -1,13 +1,13 @@
--- `jobfile::records::read_records` meets its contract. The invariant, `Filled`: the records read are in the columns, and what is left is read from
+-- `jobfile::records::read_records` meets its contract. The invariant, `ColumnsFilled`: the records read are in the columns, and what is left is read from
 -- the cursor on. The measure is how many records are left.
 use borrow.Author.Needs.{needs}
 use Prim.Native.Nat.{_-_}
-use Rattle.jobfile.proofs.ColumnLaws.{Filled, records-start, records-turn, records-end}
+use Rattle.jobfile.proofs.ColumnLaws.{ColumnsFilled, records-start, records-turn, records-end}
 use Rattle.jobfile.proofs.records.read_records.Statement.{statement}
 use Rattle.jobfile.proofs.records.read_records.Tie as tie
 
 abbrev Inv-loop : tie.InvT-loop
-Inv-loop file kind count n first₀ second₀ third₀ starts₀ lens₀ next₀ i₀ first second third starts lens next i = Filled file kind count n next₀ first second third starts lens next i
+Inv-loop file kind count n first₀ second₀ third₀ starts₀ lens₀ next₀ i₀ first second third starts lens next i = ColumnsFilled file kind count n next₀ first second third starts lens next i
 
 abbrev μ-loop : tie.MeasureT-loop
 μ-loop file kind count n first₀ second₀ third₀ starts₀ lens₀ next₀ i₀ first second third starts lens next i = n - i
