@@ -2,12 +2,12 @@
 -- comes after them. Assumes nothing.
 use mathlib.Core.Path.{_≡_, refl, sym, ap, ap₂, _∙_}
 use mathlib.Core.Bool.{Bool, true, false, _||_}
-use mathlib.Core.List.{List, map-map}
+use mathlib.Core.List.{List}
 use mathlib.Core.Option.{Option, none, some}
 use Prim.Native.Nat.{ℕ, _≤_}
 use native.Mathlib.Omega.{arith}
 use lib.Dec.{ltb}
-use lib.ListN.{length, getD, length-map}
+use lib.ListN.{length, getD}
 use borrow.Author.Tests.{ltb-false}
 use Rattle.sets.proofs.Ranges.{neither}
 use Rattle.reading.specs.declared.Reason.{Reason}
@@ -19,7 +19,8 @@ use Rattle.jobfile.specs.declared.Verdict.{Verdict}
 use Rattle.jobfile.specs.declared.Verdict.the-variants as Verdict
 use Rattle.jobfile.specs.Job.{Job, column, size, wishes, clashes}
 use Rattle.jobfile.specs.Meaning.{choiceRead, Few}
-use Rattle.jobfile.proofs.NamingLaws.{recordBy, jobBy}
+use Rattle.jobfile.proofs.NamingLaws.{jobBy, column-by}
+use Rattle.jobfile.proofs.StatedLaws.{column-length}
 use Rattle.network.specs.Network.{Network, listed, networkOf}
 use Rattle.network.specs.Groups.{firstMisplaced}
 use Rattle.filter.specs.Filter.{firstBad}
@@ -75,6 +76,6 @@ goals-passed order goals h a = at-passed (firstBad order goals) BadGoal passed h
 -- it is that of the job: zeros after the articles are not looked at, nor is what names are taken for
 pub network-same : (f : List ℕ) (job : Job Spot) (end : ℕ) → Few 64 (got job end) → networkIn (choiceRead (got job end)) ≡ networkOf (jobBy f job)
 network-same f job end few =
-    let room : (k : ℕ) → length (column k (job .records)) ≤ 64 = λ k. omega (arith, length-map (job .records) (λ r. getD (r .before) k 0), few .0, few .1) in
-    let same : (k : ℕ) → column k (jobBy f job .records) ≡ column k (job .records) = λ k. map-map (λ r. getD (r .before) k 0) (recordBy f) (job .records) in
-    padded-network (size job) 64 (wishes job) (clashes job) (room 0) (room 1) ∙ sym (ap₂ (listed (size job)) (same 0) (same 1))
+    let room : (k : ℕ) → length (column k (job .records)) ≤ 64 = λ k. omega (arith, column-length k (job .records), few .0, few .1) in
+    padded-network (size job) 64 (wishes job) (clashes job) (room 0) (room 1)
+    ∙ sym (ap₂ (listed (size job)) (column-by f 0 (job .records)) (column-by f 1 (job .records)))

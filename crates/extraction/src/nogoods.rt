@@ -32,8 +32,8 @@ pub fn stored(table: &[u64]) -> u64 {
 
 // Whether the place of the last nogood is another than `before`, and is `MANY` or after it: then the
 // search is long, and it pays to make what is stored stronger. A place is no count of what was stored:
-// after each lap of the ring the answer is false until the place is `MANY` again. With a count, long
-// searches take more nodes (docs/PERFORMANCE.md).
+// after each lap of the ring the answer is false until the place is `MANY` again. With a count, the
+// searches of the bench that fill the ring take more nodes (docs/PERFORMANCE.md).
 pub fn many(table: &[u64], before: u64) -> bool {
     let last = stored(table);
     if last == before {
