@@ -1,12 +1,13 @@
 #!/usr/bin/env python3
-"""Prints what the program show_damage must print, with reader.py, which is written from docs/RULES.md alone.
+"""Prints what the program show_damage must print, with reader.py and rules.py, which are written from docs/RULES.md alone.
 
 It shares nothing with crates/. The gate compares the two texts and says how many lines it compared.
 """
 
 from collections import Counter
 
-from reader import BASES, Refused, read
+import rules
+from reader import BASES, M, N, Refused, read
 
 
 def reason_and_place(file):
@@ -33,7 +34,17 @@ def damage(label, file):
     yield f"{label} damaged, accepted and refused by 1 to 8:" + "".join(f" {tally[reason]}" for reason in range(9))
 
 
+def names(label, file):
+    """The names of articles or steps, at numbers that there are and at some that there are not."""
+    for at in (0, 1, 2, 3, 4, 64, 2**63):
+        start, length = rules.name(file, at)
+        yield f"{label} name {at}: [{file[start : start + length].decode()}]"
+
+
 if __name__ == "__main__":
     for label, file in BASES.items():
         for line in damage(label, file):
+            print(line)
+    for label, file in (("N", N), ("M", M), ("N cut", N[:-1])):
+        for line in names(label, file):
             print(line)

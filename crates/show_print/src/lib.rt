@@ -1,4 +1,4 @@
-// What the programs print with.
+// What the programs that show print with.
 use libc::STDOUT_FILENO;
 use sets::word;
 

@@ -6,8 +6,17 @@ use reading::Refusal;
 use sets::word;
 use show_trials::Job;
 use show_trials::Step;
-use show_trials::draw;
+use show_trials::WORDS;
 use show_trials::rounds;
+
+// How many jobs are drawn.
+const JOBS: usize = 300;
+
+// The sorts of answers: 0 to 5 rounds, and refused.
+const SORTS: usize = 7;
+
+// The place of refused jobs in the tally.
+const REFUSED: usize = 6;
 
 // A step, and where the generator is after it.
 struct DrawnStep {
@@ -37,9 +46,9 @@ fn next(fact: u64, facts: u64) -> u64
 fn drawn_step(seed: u64, fact: u64, facts: u64) -> DrawnStep
     requires { ⌜ (fact < facts) × (facts < 8) ⌝ }
 {
-    let needs = draw::some(seed, 0, 2, fact + 1);
-    let gives = draw::some(needs.x, 0, 2, facts);
-    let takes = draw::some(gives.x, 0, 3, facts);
+    let needs = show_draws::some(seed, 0, 2, fact + 1);
+    let gives = show_draws::some(needs.x, 0, 2, facts);
+    let takes = show_draws::some(gives.x, 0, 3, facts);
     DrawnStep {
         step: Step::new(
             needs.set | word::unit(fact as usize),
@@ -71,31 +80,31 @@ fn with_steps(bare: Job, seed: u64, steps: u64, facts: u64) -> DrawnJob
 
 // 4 to 6 steps, 5 to 7 facts, a horizon of 1 to 5. Fact 0 holds first, and up to three are the goal.
 fn drawn_job(seed: u64) -> DrawnJob {
-    let a = draw::after(seed);
-    let b = draw::after(a);
-    let c = draw::after(b);
-    let facts = 5 + draw::below(b, 3);
-    let horizon = 1 + draw::below(c, 5);
-    let goal = draw::some(c, 1, 3, facts);
+    let a = show_draws::after(seed);
+    let b = show_draws::after(a);
+    let c = show_draws::after(b);
+    let facts = 5 + show_draws::below(b, 3);
+    let horizon = 1 + show_draws::below(c, 5);
+    let goal = show_draws::some(c, 1, 3, facts);
     let bare = Job::bare(facts as u8, horizon as u8, 1, goal.set);
-    with_steps(bare, goal.x, 4 + draw::below(a, 3), facts)
+    with_steps(bare, goal.x, 4 + show_draws::below(a, 3), facts)
 }
 
-// One more job for a count of rounds; 6 means a refusal.
-fn add(tally: &mut [u64; 7], count: usize) {
-    if count < 7 {
+// One more job for a count of rounds, or for `REFUSED`.
+fn add(tally: &mut [u64; SORTS], count: usize) {
+    if count < SORTS {
         tally[count] = std::num::wrapping_add_u64(tally[count], 1);
     }
 }
 
-fn say_kept(words: &[u32; 16], from: usize) {
+fn say_kept(words: &[u32; WORDS], from: usize) {
     if !show_trials::kept(words, from) {
         show_print::say(b" changes other words");
     }
     show_print::say(b"\n");
 }
 
-fn say_plan(job: Job, words: &[u32; 16], l: usize) {
+fn say_plan(job: Job, words: &[u32; WORDS], l: usize) {
     show_print::say_number(b": ", l as u64);
     if rounds::plan_holds(job, words, l) {
         show_print::say(b" holds");
@@ -105,13 +114,13 @@ fn say_plan(job: Job, words: &[u32; 16], l: usize) {
     say_kept(words, l);
 }
 
-fn say_refusal(refusal: Refusal, words: &[u32; 16]) {
+fn say_refusal(refusal: Refusal, words: &[u32; WORDS]) {
     let reason = refusal.reason;
     show_print::say_number(b": ", reading::number(reason) as u64);
     say_kept(words, 0);
 }
 
-fn show(number: usize, job: Job, tally: &mut [u64; 7]) {
+fn show(number: usize, job: Job, tally: &mut [u64; SORTS]) {
     show_print::say_number(b"", number as u64);
     let mut words = show_trials::marked();
     let answer = show_trials::ask(job, &mut words);
@@ -122,27 +131,27 @@ fn show(number: usize, job: Job, tally: &mut [u64; 7]) {
         }
         PlanAnswer::Refused(refusal) => {
             say_refusal(refusal, &words);
-            add(tally, 6);
+            add(tally, REFUSED);
         }
     }
 }
 
-fn totals(tally: &[u64; 7]) {
+fn totals(tally: &[u64; SORTS]) {
     show_print::say(b"rounds 0 to 5:");
     let mut count: usize = 0;
-    while count < 6 {
+    while count < REFUSED {
         show_print::say_number(b" ", tally[count]);
         count += 1;
     }
-    show_print::say_number(b", refused: ", tally[6]);
+    show_print::say_number(b", refused: ", tally[REFUSED]);
     show_print::say(b"\n");
 }
 
 fn main() {
-    let mut tally = [0u64; 7];
+    let mut tally = [0u64; SORTS];
     let mut x: u64 = 88172645463325252;
     let mut number: usize = 0;
-    while number < 300 {
+    while number < JOBS {
         let made = drawn_job(x);
         let job = made.job;
         show(number, job, &mut tally);

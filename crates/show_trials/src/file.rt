@@ -1,15 +1,19 @@
 // The file of a job.
 ghost use Prim.Native.Nat.{_+_, _≤_};
 use crate::Job;
+use crate::STEPS;
 
-// A file: its bytes, and how many of them there are. The longest has 32 steps with three fields each.
+// The bytes of the longest file: 12, and 13 for each of 32 steps with three fields.
+const LONGEST: usize = 428;
+
+// A file: its bytes, and how many of them there are.
 pub struct File {
-    pub bytes: [u8; 428],
+    pub bytes: [u8; LONGEST],
     pub len: usize,
 }
 
 // The four bytes of a set, the lowest first.
-fn set(bytes: &mut [u8; 428], at: usize, s: u64)
+fn set(bytes: &mut [u8; LONGEST], at: usize, s: u64)
     requires { ⌜ at + 4 ≤ 428 ⌝ }
 {
     bytes[at] = (s % 256) as u8;
@@ -27,7 +31,7 @@ fn mark(s: u64, bit: u8) -> u8 {
 }
 
 // A field is there if its set has members. The place after it.
-fn field(bytes: &mut [u8; 428], at: usize, s: u64) -> usize
+fn field(bytes: &mut [u8; LONGEST], at: usize, s: u64) -> usize
     requires { ⌜ at + 4 ≤ 428 ⌝ }
     ensures { λ r. ⌜ r ≤ at + 4 ⌝ }
 {
@@ -39,7 +43,7 @@ fn field(bytes: &mut [u8; 428], at: usize, s: u64) -> usize
 }
 
 // The record of a step. The place after it.
-fn record(bytes: &mut [u8; 428], at: usize, needs: u64, gives: u64, takes: u64) -> usize
+fn record(bytes: &mut [u8; LONGEST], at: usize, needs: u64, gives: u64, takes: u64) -> usize
     requires { ⌜ at + 13 ≤ 428 ⌝ }
     ensures { λ r. ⌜ r ≤ at + 13 ⌝ }
 {
@@ -53,8 +57,8 @@ fn record(bytes: &mut [u8; 428], at: usize, needs: u64, gives: u64, takes: u64) 
 fn count(steps: u8) -> usize
     ensures { λ r. ⌜ r ≤ 32 ⌝ }
 {
-    if 32 < steps {
-        return 32;
+    if STEPS < steps {
+        return STEPS as usize;
     }
     steps as usize
 }
@@ -66,7 +70,7 @@ pub fn written(job: Job) -> File
     let gives = job.gives;
     let takes = job.takes;
     let n = count(job.steps);
-    let mut bytes = [0u8; 428];
+    let mut bytes = [0u8; LONGEST];
     bytes[0] = 70;
     bytes[1] = job.steps;
     bytes[2] = job.facts;

@@ -1,6 +1,5 @@
 // Fittings that a program makes up: the job and its file, what the planner answers to it, and whether
 // that is right.
-pub mod draw;
 mod file;
 pub mod rounds;
 
@@ -8,6 +7,12 @@ use calls::PlanAnswer;
 
 // What every word holds that is not written.
 const MARK: u32 = 7;
+
+// The most steps of a fitting.
+const STEPS: u8 = 32;
+
+// The words of a buffer: one for each round of the longest horizon.
+pub const WORDS: usize = 16;
 
 // What a step needs, gives and takes.
 pub struct Step {
@@ -56,7 +61,7 @@ impl Job {
     // The job with one step more; the 33rd is left out.
     pub fn with(self, step: Step) -> Job {
         let n = self.steps;
-        if 32 <= n {
+        if STEPS <= n {
             return self;
         }
         let i = n as usize;
@@ -88,14 +93,14 @@ pub fn ask(job: Job, words: &mut [u32]) -> PlanAnswer {
 }
 
 // Words that hold the mark.
-pub fn marked() -> [u32; 16] {
-    [MARK; 16]
+pub fn marked() -> [u32; WORDS] {
+    [MARK; WORDS]
 }
 
 // Whether the words from one on hold the mark.
-pub fn kept(words: &[u32; 16], from: usize) -> bool {
+pub fn kept(words: &[u32; WORDS], from: usize) -> bool {
     let mut i: usize = from;
-    while i < 16 {
+    while i < WORDS {
         if words[i] != MARK {
             return false;
         }

@@ -1,6 +1,7 @@
 // Whether rounds are a plan, by the rules alone.
 ghost use Prim.Native.Nat.{_<_};
 use crate::Job;
+use crate::WORDS;
 use sets::word;
 
 // Whether step a takes nothing that other steps of the round need or give.
@@ -51,8 +52,8 @@ fn wide(x: u32) -> u64 {
 }
 
 // Whether the first l words are the rounds of a plan within the horizon.
-pub fn plan_holds(job: Job, words: &[u32; 16], l: usize) -> bool {
-    if 16 < l {
+pub fn plan_holds(job: Job, words: &[u32; WORDS], l: usize) -> bool {
+    if WORDS < l {
         return false;
     }
     if (job.horizon as usize) < l {

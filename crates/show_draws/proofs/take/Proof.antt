@@ -1,20 +1,23 @@
--- `show_choice::take` ends, and draws only numbers below 64. The measure is how many draws are left.
+-- `show_draws::take` ends, and draws only numbers below 64. The measure is how many draws are left.
 use borrow.Author.Needs.{needs}
 use Prim.Native.Nat.{_-_, _≤_}
-use Rattle.show_choice.proofs.take.Statement.{statement}
-use Rattle.show_choice.proofs.take.Tie as tie
+use Rattle.show_draws.proofs.take.Statement.{statement}
+use Rattle.show_draws.proofs.take.Tie as tie
 
 abbrev Inv-loop : tie.InvT-loop
-Inv-loop x count d₀ i₀ d i = i ≤ count
+Inv-loop x count n d₀ i₀ d i = i ≤ count
 
 abbrev μ-loop : tie.MeasureT-loop
-μ-loop x count d₀ i₀ d i = count - i
+μ-loop x count n d₀ i₀ d i = count - i
 
 loop-holds : tie.Need-loop-holds Inv-loop μ-loop
 loop-holds c = search needs
 
 after-requires : tie.Need-after-requires Inv-loop μ-loop
 after-requires c κs = search needs
+
+below-requires : tie.Need-below-requires Inv-loop μ-loop
+below-requires c κs = search needs
 
 more-requires : tie.Need-more-requires Inv-loop μ-loop
 more-requires c κs = search needs
@@ -39,6 +42,7 @@ take-spec =
     μ-loop
     loop-holds
     after-requires
+    below-requires
     more-requires
     add-i
     loop-less

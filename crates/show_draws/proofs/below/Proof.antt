@@ -1,9 +1,9 @@
--- `show_trials::draw::below` gives a number below n.
+-- `show_draws::below` gives a number below n.
 use borrow.Author.Needs.{needs}
 use Prim.Native.Nat.{_/_}
 use native.Mathlib.Nat.{mod-lt}
-use Rattle.show_trials.proofs.draw.below.Statement.{statement}
-use Rattle.show_trials.proofs.draw.below.Tie as tie
+use Rattle.show_draws.proofs.below.Statement.{statement}
+use Rattle.show_draws.proofs.below.Tie as tie
 
 rem-result : tie.Need-rem-result
 rem-result c = search needs

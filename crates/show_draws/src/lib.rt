@@ -23,7 +23,7 @@ pub struct Draw {
     pub x: u64,
 }
 
-// A set by `count` draws from the facts below n; one may be drawn twice.
+// A set by `count` draws from the numbers below n; one may be drawn twice.
 pub fn take(x: u64, count: u64, n: u64) -> Draw
     requires { ⌜ (0 < n) × (n ≤ 64) ⌝ }
 {
