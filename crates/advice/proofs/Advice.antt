@@ -15,7 +15,7 @@ use Rattle.sets.specs.Ranges.{num, given}
 use Rattle.sets.specs.Sets.{bit, _∈_, _⊆_, member, without, full}
 use Rattle.sets.specs.First.{Smallest}
 use Rattle.sets.proofs.Ranges.{num-either, false-num, num-false, same-yes, same-no, given-zero, given-yes, given-no}
-use Rattle.sets.proofs.Bits.{bit-le, bit-cases, bit-empty, not-in, bit-one, only-one, in-part, part-in, part-full, member-yes, member-no, member-below, member-differs, full-below, bit-full, bit-without, without-le, without-in, in-without, more-same}
+use Rattle.sets.proofs.Bits.{bit-le, bit-cases, bit-empty, not-in, bit-one, one-alone, in-part, part-in, part-full, member-yes, member-no, member-below, member-differs, full-below, bit-full, bit-without, without-le, without-in, in-without, more-same}
 use Rattle.sets.proofs.Made.{set-bit}
 use Rattle.jobfile.specs.Job.{Record, Job, column, size, order, wishes}
 use Rattle.network.specs.Network.{Network, networkOf, clash, Selection, Cover}
@@ -119,7 +119,7 @@ module _ (N : Network) (order : ℕ) where
   in-every v = (λ every x s. let (y, t, a) = emptied-exactly (2 ^ v) .0 (x, s) in a v (every y t) (bit-one v), λ fails x s. go fails x s (bit-cases x v))
     where
       go : ((x : ℕ) → Selection (emptied N (2 ^ v)) order x → ⊥) → (x : ℕ) → Selection N order x → (bit x v ≡ 0) ⊎ (bit x v ≡ 1) → v ∈ x
-      go fails x s (inl z) = let (y, t) = emptied-exactly (2 ^ v) .1 (x, s, λ u m o. member-differs x u v m z (only-one v u o)) in absurd (fails y t)
+      go fails x s (inl z) = let (y, t) = emptied-exactly (2 ^ v) .1 (x, s, λ u m o. member-differs x u v m z (one-alone v u o)) in absurd (fails y t)
       go fails x s (inr m) = m
 
   -- an article is in some selection, exactly if what it leaves of the order has a selection without the article and those that it clashes with

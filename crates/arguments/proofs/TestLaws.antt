@@ -25,20 +25,20 @@ use Rattle.network.specs.Network.{Network, listed, networkOf}
 use Rattle.network.specs.Groups.{firstMisplaced}
 use Rattle.filter.specs.Filter.{firstBad}
 use Rattle.network.proofs.ListedLaws.{padded-network}
-use Rattle.arguments.specs.Answers.{Answer, refusal, value, unless, unlessAt, passed, behind}
+use Rattle.arguments.specs.Answers.{Answer, refusal, value, unless, unlessAt, passed, afterTests}
 use Rattle.arguments.specs.Tests.{roomTest, layerTest, groupsTest, goalsTest}
 use Rattle.arguments.specs.Meaning.{verdictOf, networkIn}
 
 -- ---- what a call answers
 
-pub stopped : {A : Type 0} (t : Answer (Unit {0})) {v : Verdict} {x : Refusal} (a : Answer A) → v ≡ verdictOf t → v ≡ Verdict.Refused x → refusal (x .reason) (x .place) ≡ behind t a
-stopped {A} (refusal reason place) {v} {x} a h k =
+pub test-refused : {A : Type 0} (t : Answer (Unit {0})) {v : Verdict} {x : Refusal} (a : Answer A) → v ≡ verdictOf t → v ≡ Verdict.Refused x → refusal (x .reason) (x .place) ≡ afterTests t a
+test-refused {A} (refusal reason place) {v} {x} a h k =
     let told : Refusal = record { reason = reason; place = place } in
     let p : x ≡ told = cc in
     ap {B = Answer A} (λ (y : Refusal). refusal (y .reason) (y .place)) p
-stopped (value u) a h k = let z : _≡_ {A = ℕ} 0 1 = cc in absurd (omega arith)
+test-refused (value u) a h k = let z : _≡_ {A = ℕ} 0 1 = cc in absurd (omega arith)
 
-pub through : {A : Type 0} (t : Answer (Unit {0})) {v : Verdict} (a : Answer A) → v ≡ verdictOf t → v ≡ Verdict.Accepted → a ≡ behind t a
+pub through : {A : Type 0} (t : Answer (Unit {0})) {v : Verdict} (a : Answer A) → v ≡ verdictOf t → v ≡ Verdict.Accepted → a ≡ afterTests t a
 through (refusal reason place) a h k = let z : _≡_ {A = ℕ} 0 1 = cc in absurd (omega arith)
 through (value u) a h k = refl
 

@@ -33,9 +33,9 @@ unlessAt none reason answer = answer
 abbrev pub passed : Answer (Unit {0})
 passed = value tt
 
-abbrev pub behind : {A : Type 0} → Answer (Unit {0}) → Answer A → Answer A
-behind (refusal reason place) answer = refusal reason place
-behind (value x) answer = answer
+abbrev pub afterTests : {A : Type 0} → Answer (Unit {0}) → Answer A → Answer A
+afterTests (refusal reason place) answer = refusal reason place
+afterTests (value x) answer = answer
 
 -- what was found; the reason that there is none has place 0
 abbrev pub foundOr : {A : Type 0} → Option A → Reason → Answer A

@@ -18,7 +18,7 @@ roomTest len size = unless (ltb len size) ShortBuffer passed
 abbrev pub layerTest : ℕ → ℕ → ℕ → ℕ → ℕ → Answer (Unit {0})
 layerTest k lowest highest len size = unless (ltb k lowest || ltb highest k) OutOfRange (unless (ltb len size) ShortBuffer passed)
 
--- 10 and 11: the groups that are lent have a byte an article, and are a partition
+-- 10 and 11: the groups that are lent have a byte for each article, and are a partition
 abbrev pub groupsTest : Network → List ℕ → Answer (Unit {0})
 groupsTest N groups = unless (ltb (length groups) (N .articles)) ShortBuffer (unlessAt (firstMisplaced N (λ u. getD groups u 0)) FalsePartition passed)
 

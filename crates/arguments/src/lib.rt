@@ -50,7 +50,7 @@ pub fn layer(k: usize, lowest: usize, highest: usize, len: usize, size: usize) -
     Verdict::Accepted
 }
 
-// Whether groups lent to a choice have a byte an article and are a partition.
+// Whether groups lent to a choice have a byte for each article and are a partition.
 pub fn groups(job: ReadChoice, groups: &[u8]) -> Verdict
     requires { ⌜ job .articles ≤ 64 ⌝ }
     ensures { λ r. ⌜ r ≡ verdictOf (groupsTest (networkIn job) (now (groups .entry))) ⌝ }

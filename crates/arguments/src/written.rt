@@ -5,9 +5,10 @@ ghost use lib.ListN.{length, getD};
 ghost use lib.Seq.{paste};
 use sets::copy;
 
-// The words of a fact layer, and those of a round layer.
+// The words of a fact layer.
 pub const FACT_WORDS: usize = 32;
 
+// The words of a round layer.
 pub const VERTEX_WORDS: usize = 64;
 
 // The words of 32 facts. Later words stay as they are.

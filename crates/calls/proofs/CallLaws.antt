@@ -52,9 +52,9 @@ pub names-verdict : (g : Got (Job Spot)) → namesRead g .verdict ≡ fileVerdic
 names-verdict (refused reason place) = refl
 names-verdict (got job end) = refl
 
-pub taken : (g : Got (Job Spot)) → fileVerdict g ≡ Verdict.Accepted → Taken g
-taken (refused reason place) e = let z : _≡_ {A = ℕ} 0 1 = cc in absurd (omega arith)
-taken (got job end) e = record { job = job; end = end; is = refl }
+pub as-taken : (g : Got (Job Spot)) → fileVerdict g ≡ Verdict.Accepted → Taken g
+as-taken (refused reason place) e = let z : _≡_ {A = ℕ} 0 1 = cc in absurd (omega arith)
+as-taken (got job end) e = record { job = job; end = end; is = refl }
 
 down : (g : Got (Job Spot)) {r : Refusal} → fileVerdict g ≡ Verdict.Refused r → g ≡ refused (r .reason) (r .place)
 down (refused reason place) {r} e = let told : Refusal = record { reason = reason; place = place } in let p : told ≡ r = cc in ap (λ (x : Refusal). refused (x .reason) (x .place)) p
@@ -116,7 +116,7 @@ pub record ChoiceRead (f : List ℕ) (r : ReadChoice) : Type 0 where
 
 pub choice-read : (f : List ℕ) (r : ReadChoice) → r ≡ choiceRead (read spots choices f) → ChoiceBounds f r → r .verdict ≡ Verdict.Accepted → ChoiceRead f r
 choice-read f r e bounds accepted =
-    let t = taken (read spots choices f) (sym (ap (λ x. x .verdict) e ∙ choice-verdict (read spots choices f)) ∙ accepted) in
+    let t = as-taken (read spots choices f) (sym (ap (λ x. x .verdict) e ∙ choice-verdict (read spots choices f)) ∙ accepted) in
     let q : r ≡ choiceRead (got (t .job) (t .end)) = e ∙ ap choiceRead (t .is) in
     record {
       job = jobBy f (t .job);
@@ -135,6 +135,6 @@ pub record FittingRead (f : List ℕ) (r : ReadFitting) : Type 0 where
 
 pub fitting-job : (f : List ℕ) (r : ReadFitting) → r ≡ fittingRead (read spots fittings f) → FittingBounds f r → r .verdict ≡ Verdict.Accepted → FittingRead f r
 fitting-job f r e bounds accepted =
-    let t = taken (read spots fittings f) (sym (ap (λ x. x .verdict) e ∙ fitting-verdict (read spots fittings f)) ∙ accepted) in
+    let t = as-taken (read spots fittings f) (sym (ap (λ x. x .verdict) e ∙ fitting-verdict (read spots fittings f)) ∙ accepted) in
     let q : readJob fittings f ≡ got (jobBy f (t .job)) (t .end) = read-same f fittings ∙ ap (mapGot (jobBy f)) (t .is) in
     record { job = jobBy f (t .job); end = t .end; is = q; fitting = fitting-read f r e bounds (jobBy f (t .job)) (t .end) q }

@@ -21,10 +21,10 @@ use Rattle.filter.proofs.WishLaws.{pass-listed}
 use Rattle.choice.specs.declared.Choice.{Choice}
 use Rattle.choice.specs.Choice.{selection, chosen}
 use Rattle.choice.specs.Meaning.{chosenBy}
-use Rattle.arguments.specs.Answers.{Answer, value, onJob, behind, answered, said, refusalSaid, Left, leaving}
+use Rattle.arguments.specs.Answers.{Answer, value, onJob, afterTests, answered, said, refusalSaid, Left, leaving}
 use Rattle.arguments.specs.Tests.{roomTest, groupsTest, passTest, goalsTest}
 use Rattle.arguments.specs.Meaning.{verdictOf, networkIn}
-use Rattle.arguments.proofs.TestLaws.{stopped, through, groups-passed, goals-passed}
+use Rattle.arguments.proofs.TestLaws.{test-refused, through, groups-passed, goals-passed}
 use Rattle.calls.specs.Partition.{partitionIn, partitionOf}
 use Rattle.calls.specs.Pass.{passIn, passOf}
 use Rattle.calls.specs.Choose.{Chosen, chosenOr, chooseIn, chooseOf, searched}
@@ -45,13 +45,13 @@ module _ (f old : List ℕ) where
     e = room ∙ ap (λ (n : ℕ). verdictOf (roomTest (length old) n)) as-read
 
     abbrev partitionOver : Network → Answer (List ℕ)
-    partitionOver N = behind (roomTest (length old) (N .articles)) (value (groupsTo N (N .articles)))
+    partitionOver N = afterTests (roomTest (length old) (N .articles)) (value (groupsTo N (N .articles)))
 
     on-file : partitionOver (networkIn r) ≡ onJob (readJob choices f) (λ job. partitionIn job old)
     on-file = ap partitionOver (R .network) ∙ on-job (λ job. partitionIn job old) (R .is)
 
     pub partition-short : {x : Refusal} → v ≡ Verdict.Refused x → record { answer = refusalSaid x; buffer = old } ≡ partitionOf f old
-    partition-short q = ap left (stopped (roomTest (length old) (r .articles)) (value (groupsTo (networkIn r) (r .articles))) e q ∙ on-file)
+    partition-short q = ap left (test-refused (roomTest (length old) (r .articles)) (value (groupsTo (networkIn r) (r .articles))) e q ∙ on-file)
 
     -- the code looks at clashes only; the groups of `count` articles were made
     pub partition-made : {new : List ℕ} {count : ℕ} → v ≡ Verdict.Accepted → new ≡ groupsTo (listed 64 [] (r .clashes)) count ++ drop count old → count ≡ r .articles → record { answer = answered tt; buffer = new } ≡ partitionOf f old
@@ -74,26 +74,26 @@ module _ (f groups : List ℕ) (live goal : ℕ) where
     made N = value (pass N (λ u. getD groups u 0) live goal)
 
     abbrev passOver : Network → ℕ → Answer ℕ
-    passOver N order = behind (groupsTest N groups) (behind (passTest (N .articles) order live goal) (made N))
+    passOver N order = afterTests (groupsTest N groups) (afterTests (passTest (N .articles) order live goal) (made N))
 
     on-file-2 : passOver (networkIn r) (r .order) ≡ passOf f groups live goal
     on-file-2 = ap₂ passOver (R .network) (R .wanted) ∙ on-job (λ job. passIn job groups live goal) (R .is)
 
     pub pass-groups : {x : Refusal} → v ≡ Verdict.Refused x → refusalSaid x ≡ said (passOf f groups live goal)
-    pass-groups q = ap said (stopped (groupsTest (networkIn r) groups) (behind (passTest (r .articles) (r .order) live goal) (made (networkIn r))) e q ∙ on-file-2)
+    pass-groups q = ap said (test-refused (groupsTest (networkIn r) groups) (afterTests (passTest (r .articles) (r .order) live goal) (made (networkIn r))) e q ∙ on-file-2)
 
     module _ (ok : v ≡ Verdict.Accepted) {t : Verdict} (h : t ≡ verdictOf (passTest (r .articles) (r .order) live goal)) where
-      behind-groups : {a : Answer ℕ} → a ≡ behind (passTest (r .articles) (r .order) live goal) (made (networkIn r)) → said a ≡ said (passOf f groups live goal)
-      behind-groups k = ap said (k ∙ through (groupsTest (networkIn r) groups) (behind (passTest (r .articles) (r .order) live goal) (made (networkIn r))) e ok ∙ on-file-2)
+      after-groups : {a : Answer ℕ} → a ≡ afterTests (passTest (r .articles) (r .order) live goal) (made (networkIn r)) → said a ≡ said (passOf f groups live goal)
+      after-groups k = ap said (k ∙ through (groupsTest (networkIn r) groups) (afterTests (passTest (r .articles) (r .order) live goal) (made (networkIn r))) e ok ∙ on-file-2)
 
       pub pass-goal : {x : Refusal} → t ≡ Verdict.Refused x → refusalSaid x ≡ said (passOf f groups live goal)
-      pass-goal q = behind-groups (stopped (passTest (r .articles) (r .order) live goal) (made (networkIn r)) h q)
+      pass-goal q = after-groups (test-refused (passTest (r .articles) (r .order) live goal) (made (networkIn r)) h q)
 
       -- the code looks at wishes only; the pass was made with this live set and this goal, and x is handed on
       pub pass-made : {x left live′ goal′ : ℕ} → t ≡ Verdict.Accepted → left ≡ pass (listed (r .articles) (r .wishes) []) (λ u. getD groups u 0) live′ goal′ → live′ ≡ live → goal′ ≡ goal → x ≡ left
           → answered x ≡ said (passOf f groups live goal)
       pass-made q p same-live same-goal told =
-          behind-groups
+          after-groups
           (ap (λ (s : ℕ). value s) (told ∙ p ∙ ap₂ (pass (listed (r .articles) (r .wishes) []) (λ u. getD groups u 0)) same-live same-goal ∙ pass-listed (r .articles) (r .wishes) [] (r .clashes) (λ u. getD groups u 0) live goal)
           ∙ through (passTest (r .articles) (r .order) live goal) (made (networkIn r)) h q)
 
@@ -112,20 +112,20 @@ module _ (f groups goals : List ℕ) (floor : ℕ) where
     chosenOver N order = chosenOr (selection N order floor) (setAside N (λ u. getD groups u 0) goals)
 
     abbrev chooseOver : Network → ℕ → Answer Chosen
-    chooseOver N order = behind (groupsTest N groups) (behind (goalsTest order goals) (chosenOver N order))
+    chooseOver N order = afterTests (groupsTest N groups) (afterTests (goalsTest order goals) (chosenOver N order))
 
     on-file-3 : chooseOver (networkIn r) (r .order) ≡ chooseOf f groups goals floor
     on-file-3 = ap₂ chooseOver (R .network) (R .wanted) ∙ on-job (λ job. chooseIn job groups goals floor) (R .is)
 
     pub choose-groups : {x : Refusal} → v ≡ Verdict.Refused x → refusalSaid x ≡ said (chooseOf f groups goals floor)
-    choose-groups q = ap said (stopped (groupsTest (networkIn r) groups) (behind (goalsTest (r .order) goals) (chosenOver (networkIn r) (r .order))) e q ∙ on-file-3)
+    choose-groups q = ap said (test-refused (groupsTest (networkIn r) groups) (afterTests (goalsTest (r .order) goals) (chosenOver (networkIn r) (r .order))) e q ∙ on-file-3)
 
     module _ (ok : v ≡ Verdict.Accepted) {t : Verdict} (h : t ≡ verdictOf (goalsTest (r .order) goals)) where
-      behind-partition : {a : Answer Chosen} → a ≡ behind (goalsTest (r .order) goals) (chosenOver (networkIn r) (r .order)) → said a ≡ said (chooseOf f groups goals floor)
-      behind-partition k = ap said (k ∙ through (groupsTest (networkIn r) groups) (behind (goalsTest (r .order) goals) (chosenOver (networkIn r) (r .order))) e ok ∙ on-file-3)
+      after-partition : {a : Answer Chosen} → a ≡ afterTests (goalsTest (r .order) goals) (chosenOver (networkIn r) (r .order)) → said a ≡ said (chooseOf f groups goals floor)
+      after-partition k = ap said (k ∙ through (groupsTest (networkIn r) groups) (afterTests (goalsTest (r .order) goals) (chosenOver (networkIn r) (r .order))) e ok ∙ on-file-3)
 
       pub choose-goals : {x : Refusal} → t ≡ Verdict.Refused x → refusalSaid x ≡ said (chooseOf f groups goals floor)
-      choose-goals q = behind-partition (stopped (goalsTest (r .order) goals) (chosenOver (networkIn r) (r .order)) h q)
+      choose-goals q = after-partition (test-refused (goalsTest (r .order) goals) (chosenOver (networkIn r) (r .order)) h q)
 
       -- the search was asked for what it requires
       pub choose-may : t ≡ Verdict.Accepted → (r .articles ≤ length groups) × Partition (networkIn r) (λ u. getD groups u 0) × GoalsWithin (r .order) goals
@@ -137,6 +137,6 @@ module _ (f groups goals : List ℕ) (floor : ℕ) where
       pub choose-made : {c : Choice} {wanted from : ℕ} → t ≡ Verdict.Accepted → c ≡ chosen (networkIn r) (λ u. getD groups u 0) goals wanted from → wanted ≡ r .order → from ≡ floor
           → said (searched c) ≡ said (chooseOf f groups goals floor)
       choose-made q p same-order same-floor =
-          behind-partition
+          after-partition
           (ap searched (p ∙ ap₂ (chosen (networkIn r) (λ u. getD groups u 0) goals) same-order same-floor) ∙ searched-is (selection (networkIn r) (r .order) floor) (setAside (networkIn r) (λ u. getD groups u 0) goals)
           ∙ through (goalsTest (r .order) goals) (chosenOver (networkIn r) (r .order)) h q)

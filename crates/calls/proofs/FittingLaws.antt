@@ -34,10 +34,10 @@ use Rattle.planner.specs.declared.Planned.{Planned}
 use Rattle.planner.specs.declared.Planned.the-variants as Planned
 use Rattle.planner.specs.Meaning.{plannedBy}
 use Rattle.planner.specs.Planner.{Words}
-use Rattle.arguments.specs.Answers.{Answer, refusal, value, onJob, behind, foundOr, Said, answered, said, refusalSaid, Left, leaving}
+use Rattle.arguments.specs.Answers.{Answer, refusal, value, onJob, afterTests, foundOr, Said, answered, said, refusalSaid, Left, leaving}
 use Rattle.arguments.specs.Tests.{roomTest, layerTest}
 use Rattle.arguments.specs.Meaning.{verdictOf}
-use Rattle.arguments.proofs.TestLaws.{stopped, through}
+use Rattle.arguments.proofs.TestLaws.{test-refused, through}
 use Rattle.calls.specs.Layers.{factLayerOf, roundLayerOf}
 use Rattle.calls.specs.Plan.{planIn, planOf, WordsIn, Buffer}
 use Rattle.calls.proofs.ToldLaws.{values, number, number-said}
@@ -76,7 +76,7 @@ module _ (F : Fitting) (k : ℕ) {m : ℕ} {ws : List ℕ} (e : layer m ws ≡ r
 -- A call for layer k of a file, which `draw` gives of its fitting: k is tested from `lowest` on, and the buffer for `size` words.
 module _ (draw : Fitting → Layer) (lowest size : ℕ) (f old : List ℕ) (k : ℕ) where
   abbrev layerOf : Fitting → Answer Layer
-  layerOf F = behind (layerTest k lowest (F .horizon) (length old) size) (value (draw F))
+  layerOf F = afterTests (layerTest k lowest (F .horizon) (length old) size) (value (draw F))
 
   -- what is left of an answer
   abbrev left : Answer Layer → Left ℕ
@@ -93,7 +93,7 @@ module _ (draw : Fitting → Layer) (lowest size : ℕ) (f old : List ℕ) (k : 
     from-file = ap layerOf (R .fitting) ∙ on-job (λ job. layerOf (fittingOf job)) (R .is)
 
     pub layer-stopped : {x : Refusal} → v ≡ Verdict.Refused x → record { answer = refusalSaid x; buffer = old } ≡ left onFile
-    layer-stopped q = ap left (stopped (layerTest k lowest (r .horizon) (length old) size) (value (draw (fittingIn r))) e q ∙ from-file)
+    layer-stopped q = ap left (test-refused (layerTest k lowest (r .horizon) (length old) size) (value (draw (fittingIn r))) e q ∙ from-file)
 
     -- the words of the layer were copied to the front, and x was handed on
     layer-made : (ws : List ℕ) {x : ℕ} {new : List ℕ} → v ≡ Verdict.Accepted → take size ws ≡ draw (fittingIn r) .words → length (draw (fittingIn r) .words) ≡ size → new ≡ paste old 0 ws size
@@ -145,7 +145,7 @@ module _ (f old new : List ℕ) where
 
     -- over a fitting
     abbrev planOver : Fitting → Answer ℕ
-    planOver F = behind (roomTest (length old) (F .horizon)) (foundOr (fewest F (F .horizon)) NoPlan)
+    planOver F = afterTests (roomTest (length old) (F .horizon)) (foundOr (fewest F (F .horizon)) NoPlan)
 
     abbrev Over : Answer ℕ → Fitting → Type 0
     Over a F = (a ≡ planOver F) × WordsIn F old new (planOver F)
@@ -158,7 +158,7 @@ module _ (f old new : List ℕ) where
     with-words k w = (k, subst (WordsIn (fittingIn r) old new) k w)
 
     pub plan-short : {x : Refusal} → v ≡ Verdict.Refused x → new ≡ old → Promised (refusalSaid x)
-    plan-short q same = on-file (with-words (stopped (roomTest (length old) (r .horizon)) (foundOr (fewest (fittingIn r) (r .horizon)) NoPlan) e q) same)
+    plan-short q same = on-file (with-words (test-refused (roomTest (length old) (r .horizon)) (foundOr (fewest (fittingIn r) (r .horizon)) NoPlan) e q) same)
 
     module _ (ok : v ≡ Verdict.Accepted) {m : Planned} (p : m ≡ plannedBy (fewest (fittingIn r) (r .horizon))) (words : Words (fittingIn r) old new m) where
       tested : {a : Answer ℕ} → a ≡ foundOr (fewest (fittingIn r) (r .horizon)) NoPlan → WordsIn (fittingIn r) old new a → Promised (said a)

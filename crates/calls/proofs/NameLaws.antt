@@ -30,7 +30,7 @@ use Rattle.names.proofs.SameLaws.{padded-same, search-cong}
 use Rattle.arguments.specs.Answers.{Answer, value, onJob, foundOr, Said, answered, said, refusalSaid}
 use Rattle.calls.specs.Find.{findIn, findOf}
 use Rattle.calls.specs.Compare.{compareOf}
-use Rattle.calls.proofs.CallLaws.{Taken, choice-verdict, names-verdict, taken, file-down, choice-down-as, job-down, faultIn, placeIn, takenIn}
+use Rattle.calls.proofs.CallLaws.{Taken, choice-verdict, names-verdict, as-taken, file-down, choice-down-as, job-down, faultIn, placeIn, takenIn}
 use Rattle.calls.proofs.ToldLaws.{values, tested, test-said}
 
 -- ---- naming
@@ -50,7 +50,7 @@ module _ (f name : List ℕ) where
       → s ≡ said (foundOr o NameNotFound) → o ≡ lowestNamed name n (λ i. take (getD (r .lens) i 0) (drop (getD (r .starts) i 0) f)) → n ≡ r .count → s ≡ said (findOf f name)
   find-made r e bounds accepted told p all =
       let g = read spots either f in
-      let t = taken g (sym (ap (λ x. x .verdict) e ∙ names-verdict g) ∙ accepted) in
+      let t = as-taken g (sym (ap (λ x. x .verdict) e ∙ names-verdict g) ∙ accepted) in
       told
       ∙ ap said (ap (λ (o : Option ℕ). foundOr o NameNotFound) (
       p
@@ -92,7 +92,7 @@ module _ (f s : List ℕ) where
 
   module _ (a : ReadChoice) (ea : a ≡ choiceRead (read spots choices f)) (ba : ChoiceBounds f a) (va : a .verdict ≡ Verdict.Accepted) where
     first : Taken (read spots choices f)
-    first = taken (read spots choices f) (sym (ap (λ x. x .verdict) ea ∙ choice-verdict (read spots choices f)) ∙ va)
+    first = as-taken (read spots choices f) (sym (ap (λ x. x .verdict) ea ∙ choice-verdict (read spots choices f)) ∙ va)
 
     is-first : readJob choices f ≡ got (jobBy f (first .job)) (first .end)
     is-first = read-same f choices ∙ ap (mapGot (jobBy f)) (first .is)
@@ -102,7 +102,7 @@ module _ (f s : List ℕ) where
 
     both-read : (b : ReadChoice) {r t : Bool} → b ≡ choiceRead (read spots choices s) → ChoiceBounds s b → b .verdict ≡ Verdict.Accepted → r ≡ byArrays a b → r ≡ t → answered t ≡ said (compareOf f s)
     both-read b eb bb vb e k =
-        let second = taken (read spots choices s) (sym (ap (λ x. x .verdict) eb ∙ choice-verdict (read spots choices s)) ∙ vb) in
+        let second = as-taken (read spots choices s) (sym (ap (λ x. x .verdict) eb ∙ choice-verdict (read spots choices s)) ∙ vb) in
         ap (λ (x : Bool). answered x) (
         sym k ∙ e ∙ ap₂ byArrays (ea ∙ ap choiceRead (first .is)) (eb ∙ ap choiceRead (second .is))
         ∙ alike-is (first .job) (second .job) (first .end) (second .end) (subst (Few 64) (first .is) (ba .3)) (subst (Few 64) (second .is) (bb .3)) ∙ sym (alike-by f s (first .job) (second .job))

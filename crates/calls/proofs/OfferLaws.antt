@@ -25,7 +25,7 @@ use Rattle.filter.specs.Filter.{setAside, badGoal, firstBad}
 use Rattle.network.proofs.GroupLaws.{groups-length, groups-right, right-lent}
 use Rattle.choice.specs.declared.Choice.{Choice}
 use Rattle.choice.specs.Choice.{selection, soleGoal, offered}
-use Rattle.arguments.specs.Answers.{Answer, unless, unlessAt, behind, passed, said, refusalSaid}
+use Rattle.arguments.specs.Answers.{Answer, unless, unlessAt, afterTests, passed, said, refusalSaid}
 use Rattle.arguments.specs.Tests.{groupsTest, goalsTest}
 use Rattle.arguments.specs.Meaning.{networkIn}
 use Rattle.calls.specs.Choose.{Chosen, chosenOr, searched}
@@ -57,8 +57,8 @@ goal-passed wanted = go (eqb wanted 0) refl
 -- over a network and an order: the choice by our own partition and goal
 abbrev offerOver : Network → ℕ → Answer Chosen
 offerOver N wanted =
-    behind (groupsTest N (groupsTo N (N .articles)))
-    (behind (goalsTest wanted (soleGoal wanted))
+    afterTests (groupsTest N (groupsTo N (N .articles)))
+    (afterTests (goalsTest wanted (soleGoal wanted))
     (chosenOr (selection N wanted 0) (setAside N (λ u. getD (groupsTo N (N .articles)) u 0) (soleGoal wanted))))
 
 -- neither is turned down
@@ -66,7 +66,7 @@ own-passed : (N : Network) (wanted : ℕ) → chosenOr (selection N wanted 0) (s
 unfolding groupOf
 own-passed N wanted =
     let answer = chosenOr (selection N wanted 0) (setAside N (groupOf N) (soleGoal wanted)) in
-    sym (ap₂ (λ (a b : Answer (Unit {0})). behind a (behind b answer)) (groups-passed N) (goal-passed wanted))
+    sym (ap₂ (λ (a b : Answer (Unit {0})). afterTests a (afterTests b answer)) (groups-passed N) (goal-passed wanted))
 
 -- ---- a file
 

@@ -11,7 +11,7 @@ use Rattle.filter.specs.Filter.{setAside}
 use Rattle.choice.specs.declared.Choice.{Choice}
 use Rattle.choice.specs.declared.Choice.the-variants as Choice
 use Rattle.choice.specs.Choice.{selection}
-use Rattle.arguments.specs.Answers.{Answer, refusal, value, onJob, behind, Said, answered, refusalSaid}
+use Rattle.arguments.specs.Answers.{Answer, refusal, value, onJob, afterTests, Said, answered, refusalSaid}
 use Rattle.arguments.specs.Tests.{groupsTest, goalsTest}
 use Rattle.calls.specs.declared.ChoiceAnswer.{ChoiceAnswer}
 use Rattle.calls.specs.declared.ChoiceAnswer.the-variants as ChoiceAnswer
@@ -29,8 +29,8 @@ chosenOr none aside = refusal NoSelection 0
 -- on a job: 10 and 11, then 13 are tested; then the smallest selection at or above the floor
 abbrev pub chooseIn : {N : Type 0} → Job N → List ℕ → List ℕ → ℕ → Answer Chosen
 chooseIn job groups goals floor =
-    behind (groupsTest (networkOf job) groups)
-    (behind (goalsTest (order job) goals)
+    afterTests (groupsTest (networkOf job) groups)
+    (afterTests (goalsTest (order job) goals)
     (chosenOr (selection (networkOf job) (order job) floor) (setAside (networkOf job) (λ u. getD groups u 0) goals)))
 
 -- on a file

@@ -6,16 +6,16 @@ use Rattle.jobfile.specs.Job.{Job, size}
 use Rattle.jobfile.specs.Read.{readJob, choices}
 use Rattle.network.specs.Network.{networkOf}
 use Rattle.network.specs.Groups.{groupsTo}
-use Rattle.arguments.specs.Answers.{Answer, value, onJob, behind, Said, answered, refusalSaid, Left, leaving}
+use Rattle.arguments.specs.Answers.{Answer, value, onJob, afterTests, Said, answered, refusalSaid, Left, leaving}
 use Rattle.arguments.specs.Tests.{roomTest}
 use Rattle.calls.specs.declared.PartitionAnswer.{PartitionAnswer}
 use Rattle.calls.specs.declared.PartitionAnswer.the-variants as PartitionAnswer
 
 -- on a job: 10 is tested; then the group of each article
 abbrev pub partitionIn : {N : Type 0} → Job N → List ℕ → Answer (List ℕ)
-partitionIn job buffer = behind (roomTest (length buffer) (size job)) (value (groupsTo (networkOf job) (size job)))
+partitionIn job buffer = afterTests (roomTest (length buffer) (size job)) (value (groupsTo (networkOf job) (size job)))
 
--- on a file: the groups are written, a byte an article
+-- on a file: the groups are written, a byte for each article
 abbrev pub partitionOf : List ℕ → List ℕ → Left (Unit {0})
 partitionOf file buffer = leaving (λ groups. groups) (λ groups. tt) buffer (onJob (readJob choices file) (λ job. partitionIn job buffer))
 

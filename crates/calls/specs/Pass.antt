@@ -6,7 +6,7 @@ use Rattle.jobfile.specs.Job.{Job, size, order}
 use Rattle.jobfile.specs.Read.{readJob, choices}
 use Rattle.network.specs.Network.{networkOf}
 use Rattle.filter.specs.Filter.{pass}
-use Rattle.arguments.specs.Answers.{Answer, value, onJob, behind, Said, answered, refusalSaid}
+use Rattle.arguments.specs.Answers.{Answer, value, onJob, afterTests, Said, answered, refusalSaid}
 use Rattle.arguments.specs.Tests.{groupsTest, passTest}
 use Rattle.calls.specs.declared.PassAnswer.{PassAnswer}
 use Rattle.calls.specs.declared.PassAnswer.the-variants as PassAnswer
@@ -14,8 +14,8 @@ use Rattle.calls.specs.declared.PassAnswer.the-variants as PassAnswer
 -- on a job: 10 and 11, then 12 and 13 are tested; then the live articles that are supported
 abbrev pub passIn : {N : Type 0} → Job N → List ℕ → ℕ → ℕ → Answer ℕ
 passIn job groups live goal =
-    behind (groupsTest (networkOf job) groups)
-    (behind (passTest (size job) (order job) live goal)
+    afterTests (groupsTest (networkOf job) groups)
+    (afterTests (passTest (size job) (order job) live goal)
     (value (pass (networkOf job) (λ u. getD groups u 0) live goal)))
 
 -- on a file

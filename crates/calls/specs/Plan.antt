@@ -8,14 +8,14 @@ use Rattle.reading.specs.Got.{Got, got, refused}
 use Rattle.jobfile.specs.Job.{Job, horizon}
 use Rattle.jobfile.specs.Read.{readJob, fittings}
 use Rattle.planning.specs.Rounds.{Fitting, fittingOf, Plan, fewest}
-use Rattle.arguments.specs.Answers.{Answer, refusal, value, onJob, behind, foundOr, Said, answered, refusalSaid}
+use Rattle.arguments.specs.Answers.{Answer, refusal, value, onJob, afterTests, foundOr, Said, answered, refusalSaid}
 use Rattle.arguments.specs.Tests.{roomTest}
 use Rattle.calls.specs.declared.PlanAnswer.{PlanAnswer}
 use Rattle.calls.specs.declared.PlanAnswer.the-variants as PlanAnswer
 
 -- on a job: 10 is tested, by the horizon; then the fewest rounds of a plan within it; none is 15
 abbrev pub planIn : {N : Type 0} → Job N → List ℕ → Answer ℕ
-planIn job buffer = behind (roomTest (length buffer) (horizon job)) (foundOr (fewest (fittingOf job) (horizon job)) NoPlan)
+planIn job buffer = afterTests (roomTest (length buffer) (horizon job)) (foundOr (fewest (fittingOf job) (horizon job)) NoPlan)
 
 -- on a file
 abbrev pub planOf : List ℕ → List ℕ → Answer ℕ

@@ -38,7 +38,7 @@ use Rattle.choice.specs.Choice.{selection}
 use Rattle.choice.proofs.Theorems.{none-exactly, the-smallest, set-aside}
 use Rattle.planning.specs.Rounds.{fittingOf, fewest}
 use Rattle.planning.proofs.PlanLaws.{fewest-none, fewest-some}
-use Rattle.arguments.specs.Answers.{Answer, refusal, value, onJob, unless, unlessAt, passed, behind, foundOr, Said, refusedBy, answered, said, accepted, leaving}
+use Rattle.arguments.specs.Answers.{Answer, refusal, value, onJob, unless, unlessAt, passed, afterTests, foundOr, Said, refusedBy, answered, said, accepted, leaving}
 use Rattle.arguments.specs.Tests.{roomTest, layerTest, groupsTest, passTest, goalsTest}
 use Rattle.demands.specs.Demands.{Exactly, Refuses, Says, Fault, FirstOf, Off, Wrong, absentLayer, shortBuffer, Misplaced, falsePartition, absentArticle, Bad, wrongGoal, wrongGoals, Has, Alike, ChoiceKept, PlanKept}
 use Rattle.calls.specs.Choose.{Chosen, chosenOr, chooseIn}
@@ -93,8 +93,8 @@ tests-end a t = record { exactly = λ number place. (λ w. taken-not (said a) t 
 -- Tests taken together look for these faults. If a call accepts its input, it answers what comes after them. And it is turned down exactly for the
 -- first fault of a list: these faults, and after them those for which what comes after the tests is turned down.
 pub record Checks (t : Answer (Unit {0})) (faults : List Fault) : Type 1 where
-  pub passes : {A : Type 0} (a : Answer A) → accepted (said (behind t a)) ≡ true → behind t a ≡ a
-  pub tests : {A : Type 0} {a : Answer A} {more : List Fault} → Tests a more → Tests (behind t a) (faults ++ more)
+  pub passes : {A : Type 0} (a : Answer A) → accepted (said (afterTests t a)) ≡ true → afterTests t a ≡ a
+  pub tests : {A : Type 0} {a : Answer A} {more : List Fault} → Tests a more → Tests (afterTests t a) (faults ++ more)
 
 checks-passed : Checks passed []
 checks-passed = record { passes = λ a e. refl; tests = λ h. h }
@@ -132,8 +132,8 @@ checks-unless true P r stops h c = checks-at (some 0) (λ p. (p ≡ 0) × P) r s
 checks-unless false P r stops h c = checks-at none (λ p. (p ≡ 0) × P) r stops (λ u. (λ e. absurd (Option·none-ne-some u e), λ w. absurd (false≢true (h .1 (w .1))))) c
 
 -- if all tests pass, what comes after them is answered
-pub both-pass : {t s : Answer (Unit {0})} {faults more : List Fault} → Checks t faults → Checks s more → {A : Type 0} (a : Answer A) → accepted (said (behind t (behind s a))) ≡ true → behind t (behind s a) ≡ a
-both-pass {s = s} c d a e = let p = c .passes (behind s a) e in p ∙ d .passes a (sym (ap (λ b. accepted (said b)) p) ∙ e)
+pub both-pass : {t s : Answer (Unit {0})} {faults more : List Fault} → Checks t faults → Checks s more → {A : Type 0} (a : Answer A) → accepted (said (afterTests t (afterTests s a))) ≡ true → afterTests t (afterTests s a) ≡ a
+both-pass {s = s} c d a e = let p = c .passes (afterTests s a) e in p ∙ d .passes a (sym (ap (λ b. accepted (said b)) p) ∙ e)
 
 -- ---- each fault, as its test finds it
 
@@ -340,7 +340,7 @@ module _ (groups goals : List ℕ) (floor : ℕ) where
   choice-kept job t = go (ltb (length groups) (size job)) (firstMisplaced (networkOf job) group) (firstBad (order job) goals) (selection (networkOf job) (order job) floor) refl refl refl t
     where
       answer : Bool → Option ℕ → Option ℕ → Option ℕ → Answer Chosen
-      answer short misplaced bad s = behind (unless short ShortBuffer (unlessAt misplaced FalsePartition passed)) (behind (unlessAt bad BadGoal passed) (chosenOr s (setAside (networkOf job) group goals)))
+      answer short misplaced bad s = afterTests (unless short ShortBuffer (unlessAt misplaced FalsePartition passed)) (afterTests (unlessAt bad BadGoal passed) (chosenOr s (setAside (networkOf job) group goals)))
 
       go : (short : Bool) (misplaced bad s : Option ℕ) → firstMisplaced (networkOf job) group ≡ misplaced → firstBad (order job) goals ≡ bad → selection (networkOf job) (order job) floor ≡ s
           → accepted (said (answer short misplaced bad s)) ≡ true → ChoiceKept job group goals floor (said (answer short misplaced bad s))
@@ -440,7 +440,7 @@ module _ (old new : List ℕ) where
   plan-kept job t w = go (ltb (length old) (horizon job)) (fewest (fittingOf job) (horizon job)) refl t w
     where
       answer : Bool → Option ℕ → Answer ℕ
-      answer short k = behind (unless short ShortBuffer passed) (foundOr k NoPlan)
+      answer short k = afterTests (unless short ShortBuffer passed) (foundOr k NoPlan)
 
       go : (short : Bool) (k : Option ℕ) → fewest (fittingOf job) (horizon job) ≡ k → accepted (said (answer short k)) ≡ true → WordsIn (fittingOf job) old new (answer short k) → PlanKept job old new (said (answer short k))
       go true k e t w = absurd (false≢true t)

@@ -25,7 +25,7 @@ use Rattle.calls.specs.Find.{findOf}
 use Rattle.calls.specs.Compare.{compareOf}
 use Rattle.capi.specs.Returned.{Returned, returned, nothing, alone, both, test, spotted}
 use Rattle.capi.specs.Version.{interfaceNumber}
-use Rattle.report.specs.Outcome.{outcomeOf, room, textOf}
+use Rattle.report.specs.Outcome.{outcomeOf, blankWords, textOf}
 use Rattle.examples.specs.Files.{fileA, fileShort, fileLong, fileB, fileEmpty, fileMany, fileNamed, fileF, fileNear, fileG, fileBack}
 
 -- what the definitions give, and what the rules say
@@ -188,9 +188,9 @@ rowsC =
 -- what the program prints, in bytes: "chosen 1 2" and "aside 0" of B; "rounds 2", "1: 0" and "2: 1 2" of F; "refused 2 at 45"
 abbrev rowsText : List Row
 rowsText =
-    is (textOf (outcomeOf fileB room) room) (99 ∷ 104 ∷ 111 ∷ 115 ∷ 101 ∷ 110 ∷ 32 ∷ 49 ∷ 32 ∷ 50 ∷ 10 ∷ 97 ∷ 115 ∷ 105 ∷ 100 ∷ 101 ∷ 32 ∷ 48 ∷ 10 ∷ [])
-    ∷ is (textOf (outcomeOf fileF room) (1 ∷ 6 ∷ [])) (114 ∷ 111 ∷ 117 ∷ 110 ∷ 100 ∷ 115 ∷ 32 ∷ 50 ∷ 10 ∷ 49 ∷ 58 ∷ 32 ∷ 48 ∷ 10 ∷ 50 ∷ 58 ∷ 32 ∷ 49 ∷ 32 ∷ 50 ∷ 10 ∷ [])
-    ∷ is (textOf (outcomeOf fileShort room) room) (114 ∷ 101 ∷ 102 ∷ 117 ∷ 115 ∷ 101 ∷ 100 ∷ 32 ∷ 50 ∷ 32 ∷ 97 ∷ 116 ∷ 32 ∷ 52 ∷ 53 ∷ 10 ∷ [])
+    is (textOf (outcomeOf fileB blankWords) blankWords) (99 ∷ 104 ∷ 111 ∷ 115 ∷ 101 ∷ 110 ∷ 32 ∷ 49 ∷ 32 ∷ 50 ∷ 10 ∷ 97 ∷ 115 ∷ 105 ∷ 100 ∷ 101 ∷ 32 ∷ 48 ∷ 10 ∷ [])
+    ∷ is (textOf (outcomeOf fileF blankWords) (1 ∷ 6 ∷ [])) (114 ∷ 111 ∷ 117 ∷ 110 ∷ 100 ∷ 115 ∷ 32 ∷ 50 ∷ 10 ∷ 49 ∷ 58 ∷ 32 ∷ 48 ∷ 10 ∷ 50 ∷ 58 ∷ 32 ∷ 49 ∷ 32 ∷ 50 ∷ 10 ∷ [])
+    ∷ is (textOf (outcomeOf fileShort blankWords) blankWords) (114 ∷ 101 ∷ 102 ∷ 117 ∷ 115 ∷ 101 ∷ 100 ∷ 32 ∷ 50 ∷ 32 ∷ 97 ∷ 116 ∷ 32 ∷ 52 ∷ 53 ∷ 10 ∷ [])
     ∷ []
 
 -- a set of articles: it takes one, the same again, one of number 64; it gives one up, one that it lacks, one of number 64; a member, a number that is

@@ -11,7 +11,7 @@ use lib.Dec.{eqb}
 use lib.ListN.{length, getD, set}
 use lib.Seq.{getD-set-same, getD-set-other}
 use Rattle.sets.specs.Sets.{bit, _∈_, _⊆_, without}
-use Rattle.sets.proofs.Bits.{bit-le, bit-cases, bit-empty, bit-or, bit-without, member-below, only-one, part-refl, part-in, in-part, part-below, none-without, in-without, less-in, more-same, member-differs}
+use Rattle.sets.proofs.Bits.{bit-le, bit-cases, bit-empty, bit-or, bit-without, member-below, one-alone, part-refl, part-in, in-part, part-below, without-part, in-without, less-in, more-same, member-differs}
 use Rattle.sets.proofs.Made.{gathered-at, gathered-from}
 use Rattle.network.specs.Network.{Network, listed, Cover}
 use Rattle.network.specs.Tables.{Tabled}
@@ -29,7 +29,7 @@ use Rattle.extraction.proofs.NogoodLaws.{stored-if, whole-box}
 -- ---- sets
 
 one-part : (f s : ℕ) → f ∈ s → 2 ^ f ⊆ s
-one-part f s m = in-part (2 ^ f) s (λ i e. subst (λ (j : ℕ). j ∈ s) (sym (only-one f i e)) m)
+one-part f s m = in-part (2 ^ f) s (λ i e. subst (λ (j : ℕ). j ∈ s) (sym (one-alone f i e)) m)
 
 -- what lacks f and lies in a lies in a less f
 lacking-part : (s a f : ℕ) → bit s f ≡ 0 → s ⊆ a → s ⊆ without a (2 ^ f)
@@ -74,7 +74,7 @@ module _ (T : Graph) where
 
   pub bottom-held : (k g lack : ℕ) (q : List ℕ) → k ≡ 0 → lack ≡ without g (T .start) → lack ≡ 0 → Held T k g q
   unfolding Held
-  bottom-held k g lack q ek el z = subst (λ (r : ℕ). Held T r g q) (sym ek) (none-without g (T .start) (sym el ∙ z))
+  bottom-held k g lack q ek el z = subst (λ (r : ℕ). Held T r g q) (sym ek) (without-part g (T .start) (sym el ∙ z))
 
   -- one fact of the goal that the start lacks is enough
   pub bottom-lacks : (k g may must why lack f e : ℕ) → k ≡ 0 → lack ≡ without g (T .start) → f ∈ lack → why ⊆ g → e ≡ bitOr why (2 ^ f) → Refutes T k g may must why e
@@ -90,17 +90,17 @@ module _ (T : Graph) where
 
   -- ---- a round is left
 
-  pub blocked-refuses : (k g may must why e : ℕ) → k ≢ 0 → Blocked T (k - 1) g may must why e → Refutes T k g may must why e
-  blocked-refuses k g may must why e d b = subst (λ (r : ℕ). Refutes T r g may must why e) (let q : suc (k - 1) ≡ k = omega arith in q) b
+  pub blocked-refutes : (k g may must why e : ℕ) → k ≢ 0 → Blocked T (k - 1) g may must why e → Refutes T k g may must why e
+  blocked-refutes k g may must why e d b = subst (λ (r : ℕ). Refutes T r g may must why e) (let q : suc (k - 1) ≡ k = omega arith in q) b
 
-  pub refuses-blocked : (k g may must why e : ℕ) → k ≢ 0 → Refutes T k g may must why e → Blocked T (k - 1) g may must why e
-  refuses-blocked k g may must why e d b = subst (λ (r : ℕ). Refutes T r g may must why e) (let q : k ≡ suc (k - 1) = omega arith in q) b
+  pub refutes-blocked : (k g may must why e : ℕ) → k ≢ 0 → Refutes T k g may must why e → Blocked T (k - 1) g may must why e
+  refutes-blocked k g may must why e d b = subst (λ (r : ℕ). Refutes T r g may must why e) (let q : k ≡ suc (k - 1) = omega arith in q) b
 
   -- facts that are refuted, in any box
-  pub known-refuses : (k g may must why c : ℕ) → k ≢ 0 → c ⊆ g → (Back T k c → ⊥) → why ⊆ g → Refutes T k g may must why (bitOr c why)
+  pub known-refutes : (k g may must why c : ℕ) → k ≢ 0 → c ⊆ g → (Back T k c → ⊥) → why ⊆ g → Refutes T k g may must why (bitOr c why)
   unfolding Back
-  known-refuses k g may must why c d hc none hw =
-      blocked-refuses k g may must why (bitOr c why) d (record {
+  known-refutes k g may must why c d hc none hw =
+      blocked-refutes k g may must why (bitOr c why) d (record {
         keeps = λ i. omega (arith, bit-or c why i);
         part = λ i. omega (arith, bit-or c why i, hc i, hw i);
         blocked = λ x p _ _ b. none (subst (λ (r : ℕ). Back T r c) (let q : suc (k - 1) ≡ k = omega arith in q)
@@ -193,10 +193,10 @@ module _ (T : Graph) where
 
     -- ---- the whole box: every selection lies in it
 
-    pub refuses-whole : (k g why e : ℕ) → Refutes T k g allFacts 0 why e → (e ⊆ g) × (Back T k e → ⊥)
+    pub refutes-whole : (k g why e : ℕ) → Refutes T k g allFacts 0 why e → (e ⊆ g) × (Back T k e → ⊥)
     unfolding Back
-    refuses-whole zero g why e r = (r .part, r .lacks)
-    refuses-whole (suc j) g why e r = (r .part, λ (x, p, b). r .blocked x p (λ i. omega (arith, bit-empty i)) (inside x) b)
+    refutes-whole zero g why e r = (r .part, r .lacks)
+    refutes-whole (suc j) g why e r = (r .part, λ (x, p, b). r .blocked x p (λ i. omega (arith, bit-empty i)) (inside x) b)
       where
         inside : (x : ℕ) → needsOf T x ⊆ allFacts
         inside x =
@@ -211,4 +211,4 @@ module _ (T : Graph) where
         none : first ≡ true → Back T k e → ⊥
         none on =
             let (same, empty) = whole-box may allFacts must (sym q ∙ on) in
-            refuses-whole k g why e (subst (λ (x : ℕ). Refutes T k g x 0 why e) same (subst (λ (y : ℕ). Refutes T k g may y why e) empty r)) .1
+            refutes-whole k g why e (subst (λ (x : ℕ). Refutes T k g x 0 why e) same (subst (λ (y : ℕ). Refutes T k g may y why e) empty r)) .1

@@ -13,7 +13,7 @@ use lib.Seq.{getD-set-same, getD-set-other}
 use borrow.Author.Tests.{eq-eqb, ne-eqb, eqb-true}
 use Rattle.sets.specs.Sets.{_⊆_, without}
 use Rattle.sets.proofs.Ranges.{both-true, zeros}
-use Rattle.sets.proofs.Bits.{none-without}
+use Rattle.sets.proofs.Bits.{without-part}
 use Rattle.extraction.specs.Extraction.{Graph, Back, Fine, Nogoods, Noted, Stored, StoredIf}
 use Rattle.extraction.specs.declared.nogoods.Known.the-variants as Known
 
@@ -21,7 +21,7 @@ use Rattle.extraction.specs.declared.nogoods.Known.the-variants as Known
 
 -- an entry found by the tests of `lookup`
 pub noted-at : (table : List ℕ) (k g i : ℕ) → 0 < i → k ≤ getD table i 0 / 2 ^ 32 → without (getD table i 0 % 2 ^ 32) g ≡ 0 → Noted table k g (Known.Nogood (getD table i 0 % 2 ^ 32))
-noted-at table k g i pos enough e = (none-without (getD table i 0 % 2 ^ 32) g e, (i, pos, enough, refl))
+noted-at table k g i pos enough e = (without-part (getD table i 0 % 2 ^ 32) g e, (i, pos, enough, refl))
 
 -- an entry for r rounds, k or more: by `grows`, what r rounds do not reach, k rounds do not reach either
 pub noted-refutes : (T : Graph) (carriers : List ℕ) → Fine T carriers → (table : List ℕ) → Nogoods T table → (k g c : ℕ) → 0 < k → Noted table k g (Known.Nogood c) → (c ⊆ g) × (Back T k c → ⊥)

@@ -10,8 +10,8 @@ use Rattle.sets.specs.Sets.{_⊆_, full, gathered}
 use Rattle.network.specs.Network.{listed, Cover}
 use Rattle.network.specs.Tables.{Tabled}
 use Rattle.supports.specs.Supports.{rowOf}
-use Rattle.extraction.specs.declared.Outcome.{Outcome}
-use Rattle.extraction.specs.declared.Outcome.the-variants as Outcome
+use Rattle.extraction.specs.declared.Extraction.{Extraction}
+use Rattle.extraction.specs.declared.Extraction.the-variants as Extraction
 use Rattle.extraction.specs.declared.nogoods.Known.{Known}
 use Rattle.extraction.specs.declared.nogoods.Known.the-variants as Known
 
@@ -100,6 +100,6 @@ Refutes T zero g may must why e = Lacking T g why e
 Refutes T (suc j) g may must why e = Blocked T j g may must why e
 
 -- a plan of k rounds for g is in p; or facts of g, with those of why, that the selections of the box cannot be worked back for
-abbrev pub Extracted : Graph → ℕ → ℕ → ℕ → ℕ → ℕ → List ℕ → Outcome → Type 0
-Extracted T k g may must why p Outcome.Made = Held T k g p
-Extracted T k g may must why p (Outcome.Refuted e) = Refutes T k g may must why e
+abbrev pub Extracted : Graph → ℕ → ℕ → ℕ → ℕ → ℕ → List ℕ → Extraction → Type 0
+Extracted T k g may must why p Extraction.Made = Held T k g p
+Extracted T k g may must why p (Extraction.Refuted e) = Refutes T k g may must why e

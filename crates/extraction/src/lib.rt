@@ -23,7 +23,7 @@ const FIRST_STEP: usize = 32;
 const FEW: u32 = 3;
 
 // A plan, or facts that are refuted.
-pub enum Outcome {
+pub enum Extraction {
     Made,
     Refuted(u64),
 }
@@ -109,7 +109,7 @@ fn dropped(
             0,
         );
         left = others;
-        let Outcome::Refuted(e) = inner else {
+        let Extraction::Refuted(e) = inner else {
             continue;
         };
         least = e;
@@ -121,6 +121,8 @@ fn dropped(
 // Graphplan's backward extraction, with nogoods. `needs`, `gives` and `carriers` are the tables of the
 // vertices, `members` and `words` the vertices and mutex words of each round layer, `start` has the
 // facts at the start, `plan` gets the steps of each round, and `table` has the nogoods.
+// `k` is how many rounds are left, and `goal` has the facts that are to hold after them. If the box is
+// the whole, a goal that includes a nogood is refuted at once, and what is refuted is stored.
 //
 // The needs of a selection of round layer k for the goal are the goal of the round before. If they are
 // refuted there by facts c, every other selection either needs all of c and is refuted with it, or lacks
@@ -144,7 +146,7 @@ pub fn extract(
     may: u64,
     must: u64,
     why: u64,
-) -> Outcome
+) -> Extraction
     requires { ⌜ Fine (graph (now needs) (now gives) (now members) (now words) start) (now carriers) × Nogoods (graph (now needs) (now gives) (now members) (now words) start) (now table) ⌝ }
     requires { ⌜ (k ≤ length (now members)) × (k ≤ length (now plan)) × (goal ⊆ allFacts) × (may ⊆ allFacts) × (why ⊆ goal) ⌝ }
     ensures { λ r. ⌜ Extracted (graph (now (needs .entry)) (now (gives .entry)) (now (members .entry)) (now (words .entry)) start) k goal may must why (now (plan .exit)) r × Nogoods (graph (now (needs .entry)) (now (gives .entry)) (now (members .entry)) (now (words .entry)) start) (now (table .exit)) ⌝ }
@@ -152,14 +154,14 @@ pub fn extract(
     if k == 0 {
         let lack = word::without(goal, start);
         if lack == 0 {
-            return Outcome::Made;
+            return Extraction::Made;
         }
-        return Outcome::Refuted(word::more(why, word::lowest(lack)));
+        return Extraction::Refuted(word::more(why, word::lowest(lack)));
     }
     let first = whole(may, must);
     let seen = nogoods::lookup(table, k, goal, first);
     if let Known::Nogood(c) = seen {
-        return Outcome::Refuted(c | why);
+        return Extraction::Refuted(c | why);
     }
     let j = k - 1;
     let open = supports::open_to(needs, members[j], may);
@@ -167,7 +169,7 @@ pub fn extract(
     let Found::Set(selection) = picked else {
         let e = supports::explain(gives, carriers, words, j, open, goal, why);
         nogoods::store(table, k, e, first);
-        return Outcome::Refuted(e);
+        return Extraction::Refuted(e);
     };
     let wanted = word::gather(needs, selection);
     let before = nogoods::stored(table);
@@ -186,9 +188,9 @@ pub fn extract(
         0,
         0,
     );
-    let Outcome::Refuted(refuted) = below else {
+    let Extraction::Refuted(refuted) = below else {
         plan[j] = steps_of(selection);
-        return Outcome::Made;
+        return Extraction::Made;
     };
     let c = dropped(
         needs,
@@ -223,13 +225,13 @@ pub fn extract(
             kept,
             reason,
         );
-        let Outcome::Refuted(e) = turn else {
-            return Outcome::Made;
+        let Extraction::Refuted(e) = turn else {
+            return Extraction::Made;
         };
         reason = e;
         kept = word::more(kept, f);
         left = word::less(left, f);
     }
     nogoods::store(table, k, reason, first);
-    Outcome::Refuted(reason)
+    Extraction::Refuted(reason)
 }

@@ -69,7 +69,7 @@ pub fn lookup(table: &[u64], k: usize, facts: u64, on: bool) -> Known
 }
 
 // The place after the last, from 1 to n - 1 and from the front again.
-fn after(last: u64, n: usize) -> usize
+fn next_place(last: u64, n: usize) -> usize
     requires { ⌜ 2 ≤ n ⌝ }
     ensures { λ r. ⌜ (0 < r) × (r < n) ⌝ }
 {
@@ -93,7 +93,7 @@ pub fn store(table: &mut [u64], k: usize, facts: u64, on: bool)
         return;
     }
     let last = table[0];
-    let at = after(last, n);
+    let at = next_place(last, n);
     table[0] = at as u64;
     table[at] = (k as u64) * ROUND + facts;
 }

@@ -10,12 +10,13 @@ use lib.ListN.{length, getD, set, replicate, length-set, length-replicate}
 use lib.Seq.{getD-set-same, getD-set-other}
 use Rattle.sets.specs.Ranges.{listTo}
 use Rattle.sets.proofs.Ranges.{list-cong, list-turn, zeros}
+use Rattle.sets.proofs.Filled.{past-turn}
 use Rattle.reading.specs.declared.Spot.{Spot}
 use Rattle.reading.specs.declared.item.Cursor.{Cursor}
 use Rattle.reading.specs.declared.item.Cursor.the-variants as Cursor
 use Rattle.jobfile.specs.declared.records.Kind.{Kind}
 use Rattle.jobfile.specs.declared.records.Kind.the-variants.{Choice, Fitting}
-use Rattle.jobfile.specs.declared.records.Record as Found
+use Rattle.jobfile.specs.declared.records.ReadRecord.{ReadRecord}
 use Rattle.jobfile.specs.declared.records.Records.{Records}
 use Rattle.reading.specs.Got.{Got, got, refused, Reader, andThen, eachAt, upFrom}
 use Rattle.reading.specs.Items.{spots}
@@ -31,15 +32,15 @@ pub column-none : Column 0 (replicate {A = ℕ} 64 0)
 column-none = record { size = length-replicate {A = ℕ} 64 0; past = λ i l. zeros 64 i }
 
 pub column-set : (i : ℕ) (l : List ℕ) (v : ℕ) → Column i l → Column (i + 1) (set l i v)
-column-set i l v c = record { size = length-set l i v ∙ c .size; past = λ j h. getD-set-other l i j v 0 (λ e. let z : ⊥ = omega arith in z) ∙ c .past j (omega arith) }
+column-set i l v c = record { size = length-set l i v ∙ c .size; past = past-turn l i v (c .past) }
 
 -- ---- what was read so far
 
 -- what is done, in front of what a reading gives
-abbrev pub after : {A : Type 0} → List A → Got (List A) → Got (List A)
-after done r = andThen r λ xs b. got (done ++ xs) b
+abbrev pub prepended : {A : Type 0} → List A → Got (List A) → Got (List A)
+prepended done r = andThen r λ xs b. got (done ++ xs) b
 
-consed : {A : Type 0} (done : List A) (x : A) (r : Got (List A)) → after done (andThen r λ xs b. got (x ∷ xs) b) ≡ after (done ++ (x ∷ [])) r
+consed : {A : Type 0} (done : List A) (x : A) (r : Got (List A)) → prepended done (andThen r λ xs b. got (x ∷ xs) b) ≡ prepended (done ++ (x ∷ [])) r
 consed done x (refused reason place) = refl
 consed done x (got xs b) = ap (λ l. got l b) (sym (append-assoc done (x ∷ []) xs))
 
@@ -53,7 +54,7 @@ module _ (f : List ℕ) (kind : Kind) (count n : ℕ) (from : Cursor) where
 
   -- the records from i on, after those that the columns hold
   abbrev pub rest : ℕ → List (Record Spot) → ℕ → Got (List (Record Spot))
-  rest i done at = after done (eachAt item (upFrom (n - i) i) f at)
+  rest i done at = prepended done (eachAt item (upFrom (n - i) i) f at)
 
   -- the loop's invariant, when it is about to read record i
   pub record ColumnsFilled (first second third starts lens : List ℕ) (next : Cursor) (i : ℕ) : Type 0 where
@@ -83,11 +84,11 @@ module _ (f : List ℕ) (kind : Kind) (count n : ℕ) (from : Cursor) where
     tidy = λ j. rw (column-none .past j zero-le) (tidy-none (length f) kind);
   }
     where
-      whole : (r : Got (List (Record Spot))) → r ≡ after [] r
+      whole : (r : Got (List (Record Spot))) → r ≡ prepended [] r
       whole (refused reason place) = refl
       whole (got xs b) = refl
 
-  pub records-turn : (first second third starts lens : List ℕ) (next : Cursor) (i : ℕ) (r : Found.Record) → ColumnsFilled first second third starts lens next i → i < n → n ≤ 64
+  pub records-turn : (first second third starts lens : List ℕ) (next : Cursor) (i : ℕ) (r : ReadRecord) → ColumnsFilled first second third starts lens next i → i < n → n ≤ 64
       → recordOf kind r ≡ readFrom next (recordAt spots (layoutBy kind) count i f) → Tidy kind (length f) (r .third) (r .spot .start) (r .spot .len)
       → ColumnsFilled (set first i (r .first)) (set second i (r .second)) (set third i (r .third)) (set starts i (r .spot .start)) (set lens i (r .spot .len)) (r .next) (i + 1)
   unfolding eachAt upFrom
@@ -139,12 +140,12 @@ module _ (f : List ℕ) (kind : Kind) (count n : ℕ) (from : Cursor) where
           sym (list-turn i new ∙ ap (λ (x : Record Spot). listTo i new ++ (x ∷ [])) here
           ∙ ap (λ (l : List (Record Spot)). l ++ (y ∷ [])) (list-cong i new (recordFrom kind first second third starts lens) (λ j h. other j (λ q. let z : ⊥ = omega arith in z))))
 
-      split : (at : ℕ) → rest i old at ≡ andThen (item i f at) (λ x a. after old (andThen (eachAt item (upFrom (n - (i + 1)) (suc i)) f a) λ xs b. got (x ∷ xs) b))
+      split : (at : ℕ) → rest i old at ≡ andThen (item i f at) (λ x a. prepended old (andThen (eachAt item (upFrom (n - (i + 1)) (suc i)) f a) λ xs b. got (x ∷ xs) b))
       split at =
           let k : n - i ≡ suc (n - (i + 1)) = omega arith in
-          ap (λ (m : ℕ). after old (eachAt item (upFrom m i) f at)) k ∙ and-assoc (item i f at) _ _
+          ap (λ (m : ℕ). prepended old (eachAt item (upFrom m i) f at)) k ∙ and-assoc (item i f at) _ _
 
-      onward : (at : ℕ) → after (old ++ (y ∷ [])) (eachAt item (upFrom (n - (i + 1)) (suc i)) f at) ≡ rest (i + 1) (listTo (i + 1) new) at
+      onward : (at : ℕ) → prepended (old ++ (y ∷ [])) (eachAt item (upFrom (n - (i + 1)) (suc i)) f at) ≡ rest (i + 1) (listTo (i + 1) new) at
       onward at = rw (grown, add-one i)
 
       tidied : (j : ℕ) → Dec (j ≡ i) → Tidy kind (length f) (getD (set third i (r .third)) j 0) (getD (set starts i (r .spot .start)) j 0) (getD (set lens i (r .spot .len)) j 0)

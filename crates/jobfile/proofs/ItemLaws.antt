@@ -15,7 +15,7 @@ use Rattle.reading.specs.Got.{got, refuse}
 use Rattle.reading.specs.Items.{bytesIn, kindAt, valueAt, numberAt, countAt, mapAt, setAt, amountAt, fieldAt, lengthAt, nameAt}
 use Rattle.jobfile.specs.Write.{bytesOf}
 use Rattle.jobfile.specs.Valid.{Bytes}
-use Rattle.jobfile.proofs.Lawful.{Lawful, refuse-got, same-value, same-next, in-front, front, behind, ends-within, checked-lawful, seq-lawful, restate}
+use Rattle.jobfile.proofs.Lawful.{Lawful, refuse-got, same-value, same-next, in-front, front, after-byte, ends-within, checked-lawful, seq-lawful, restate}
 
 -- ---- numbers
 
@@ -41,7 +41,7 @@ unfolding bytesOf valueAt
 value-back zero v h f at t e = omega arith
 value-back (suc k) v h f at t e =
     let h′ : v < 256 ^ k * 256 = rw (← pow-suc 256 k) h in
-    omega (arith, front f at e, value-back k (v / 256) (omega arith) f (at + 1) t (behind f at e))
+    omega (arith, front f at e, value-back k (v / 256) (omega arith) f (at + 1) t (after-byte f at e))
 
 pub length-bytes : (k v : ℕ) → length (bytesOf k v) ≡ k
 unfolding bytesOf

@@ -54,8 +54,8 @@ in-front f at {b} {t} e = omega (arith, sym (length-drop at f) ∙ ap length e)
 pub front : (f : List ℕ) (at : ℕ) {b : ℕ} {t : List ℕ} → drop at f ≡ b ∷ t → getD f at 0 ≡ b
 front f at {b} {t} e = let c = sym (drop-cons f at 0 (in-front f at e)) ∙ e in cc
 
-pub behind : (f : List ℕ) (at : ℕ) {b : ℕ} {t : List ℕ} → drop at f ≡ b ∷ t → drop (at + 1) f ≡ t
-behind f at {b} {t} e = let c = sym (drop-cons f at 0 (in-front f at e)) ∙ e in rw (add-one at) (cc)
+pub after-byte : (f : List ℕ) (at : ℕ) {b : ℕ} {t : List ℕ} → drop at f ≡ b ∷ t → drop (at + 1) f ≡ t
+after-byte f at {b} {t} e = let c = sym (drop-cons f at 0 (in-front f at e)) ∙ e in rw (add-one at) (cc)
 
 pub past : (f : List ℕ) (at : ℕ) (w t : List ℕ) → drop at f ≡ w ++ t → drop (at + length w) f ≡ t
 past f at w t e = sym (drop-drop (length w) at f) ∙ ap (drop (length w)) e ∙ drop-append-seam w t
@@ -167,12 +167,12 @@ pub each-same : {A B : Type 0} (item other : A → Reader B) (f : List ℕ) → 
 unfolding eachAt
 each-same item other f same [] at = refl
 each-same item other f same (x ∷ xs) at =
-    ap (λ r. andThen r λ y a. andThen (eachAt item xs f a) λ ys b. got (y ∷ ys) b) (same x at) ∙ behind-it (other x f at) (each-same item other f same xs)
+    ap (λ r. andThen r λ y a. andThen (eachAt item xs f a) λ ys b. got (y ∷ ys) b) (same x at) ∙ after-it (other x f at) (each-same item other f same xs)
   where
-    behind-it : (r : Got _) → ((a : ℕ) → eachAt item xs f a ≡ eachAt other xs f a)
+    after-it : (r : Got _) → ((a : ℕ) → eachAt item xs f a ≡ eachAt other xs f a)
         → andThen r (λ y a. andThen (eachAt item xs f a) λ ys b. got (y ∷ ys) b) ≡ andThen r (λ y a. andThen (eachAt other xs f a) λ ys b. got (y ∷ ys) b)
-    behind-it (refused reason place) rest = refl
-    behind-it (got y a) rest = ap (λ r. andThen r λ ys b. got (y ∷ ys) b) (rest a)
+    after-it (refused reason place) rest = refl
+    after-it (got y a) rest = ap (λ r. andThen r λ ys b. got (y ∷ ys) b) (rest a)
 
 abbrev pub All : {A : Type 0} → (A → Type 0) → List A → Type 0
 All P [] = Unit {0}

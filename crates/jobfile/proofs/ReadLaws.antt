@@ -7,9 +7,9 @@ use native.Mathlib.Decide.{decLt}
 use native.Mathlib.Omega.{arith}
 use lib.Dec.{eqb}
 use lib.ListN.{length, getD, length-map, List·getD-eq-default, List·getD-map}
-use lib.Seq.{ext-getD}
 use Rattle.sets.specs.Ranges.{listTo}
 use Rattle.sets.proofs.Ranges.{list-length, list-at, list-past, list-map}
+use Rattle.sets.proofs.Filled.{filled-part}
 use Rattle.reading.specs.declared.Refusal.{Refusal}
 use Rattle.reading.specs.declared.Spot.{Spot}
 use Rattle.jobfile.specs.declared.Verdict.{Verdict}
@@ -36,12 +36,8 @@ use Rattle.jobfile.proofs.StepLaws.{body-is, file-is}
 -- ---- columns as arrays
 
 -- a column is the array of what its records have
-pub column-is : (n : ℕ) (l : List ℕ) → Column n l → n ≤ 64 → (e : ℕ → Record Spot) (h : Record Spot → ℕ) → ((i : ℕ) → h (e i) ≡ getD l i 0) → l ≡ padded 64 (map h (listTo n e))
-column-is n l c room e h same = ext-getD 0 l (padded 64 (map h (listTo n e))) (c .size ∙ sym (list-length 64 _)) (λ i k. at i (decLt i n) (omega (arith, c .size)))
-  where
-    at : (i : ℕ) → Dec (i < n) → i < 64 → getD l i 0 ≡ getD (padded 64 (map h (listTo n e))) i 0
-    at i (yes k) m = sym (list-at 64 (λ j. getD (map h (listTo n e)) j 0) 0 i m ∙ ap (λ (g : List ℕ). getD g i 0) (list-map n e h) ∙ list-at n (λ j. h (e j)) 0 i k ∙ same i)
-    at i (no k) m = c .past i (omega arith) ∙ sym (list-at 64 (λ j. getD (map h (listTo n e)) j 0) 0 i m ∙ ap (λ (g : List ℕ). getD g i 0) (list-map n e h) ∙ list-past n (λ j. h (e j)) 0 i (omega arith))
+pub column-is : (n : ℕ) (l : List ℕ) → Column n l → (e : ℕ → Record Spot) (h : Record Spot → ℕ) → ((i : ℕ) → h (e i) ≡ getD l i 0) → l ≡ padded 64 (map h (listTo n e))
+column-is n l c e h same = filled-part 64 (λ i. h (e i)) l n n (c .size, λ i k. sym (same i)) (c .past) refl ∙ ap (padded 64) (sym (list-map n e h))
 
 -- a list in an array that it fits into
 pub padded-at : (size : ℕ) (l : List ℕ) → length l ≤ size → (i : ℕ) → getD (padded size l) i 0 ≡ getD l i 0
@@ -108,10 +104,10 @@ module _ (f : List ℕ) (n w order : ℕ) (found : Records) (a b c d : Cursor)
   choice-accepted {end} {at} e q ln lw ok =
       let told = end-reached choiceJob f (found .next) e choice-read q in
       let from = recordFrom Choice (found .first) (found .second) (found .third) (found .starts) (found .lens) in
-      let one = column-is n (found .first) (ok .first) ln from (λ r. getD (r .before) 0 0) (λ i. refl) in
-      let two = column-is n (found .second) (ok .second) ln from (λ r. getD (r .before) 1 0) (λ i. refl) in
-      let starts = column-is n (found .starts) (ok .starts) ln from (λ r. r .name .start) (λ i. refl) in
-      let lens = column-is n (found .lens) (ok .lens) ln from (λ r. r .name .len) (λ i. refl) in (
+      let one = column-is n (found .first) (ok .first) from (λ r. getD (r .before) 0 0) (λ i. refl) in
+      let two = column-is n (found .second) (ok .second) from (λ r. getD (r .before) 1 0) (λ i. refl) in
+      let starts = column-is n (found .starts) (ok .starts) from (λ r. r .name .start) (λ i. refl) in
+      let lens = column-is n (found .lens) (ok .lens) from (λ r. r .name .len) (λ i. refl) in (
         ap (λ (l : List ℕ). record { verdict = Verdict.Accepted; articles = n; «wish_count» = w; order = order; wishes = l; clashes = found .second; starts = found .starts; lens = found .lens }) one
             ∙ ap (λ (l : List ℕ). record { verdict = Verdict.Accepted; articles = n; «wish_count» = w; order = order; wishes = padded 64 (wishes choiceJob); clashes = l; starts = found .starts; lens = found .lens }) two
             ∙ ap (λ (l : List ℕ). record { verdict = Verdict.Accepted; articles = n; «wish_count» = w; order = order; wishes = padded 64 (wishes choiceJob); clashes = padded 64 (clashes choiceJob); starts = l; lens = found .lens }) starts
@@ -153,12 +149,11 @@ module _ (f : List ℕ) (n m rounds begin goal : ℕ) (found : Records) (a b c d
   fitting-accepted {end} {at} e q ln lm lr ok =
       let told = end-reached fittingJob f (found .next) e fitting-read q in
       let from = recordFrom Fitting (found .first) (found .second) (found .third) (found .starts) (found .lens) in
-      let room : n ≤ 64 = omega arith in
-      let one = column-is n (found .first) (ok .first) room from (λ r. getD (r .before) 0 0) (λ i. refl) in
-      let two = column-is n (found .second) (ok .second) room from (λ r. getD (r .before) 1 0) (λ i. refl) in
-      let three = column-is n (found .third) (ok .third) room from (λ r. getD (r .before) 2 0) (λ i. refl) in
-      let starts = column-is n (found .starts) (ok .starts) room from (λ r. r .name .start) (λ i. refl) in
-      let lens = column-is n (found .lens) (ok .lens) room from (λ r. r .name .len) (λ i. refl) in (
+      let one = column-is n (found .first) (ok .first) from (λ r. getD (r .before) 0 0) (λ i. refl) in
+      let two = column-is n (found .second) (ok .second) from (λ r. getD (r .before) 1 0) (λ i. refl) in
+      let three = column-is n (found .third) (ok .third) from (λ r. getD (r .before) 2 0) (λ i. refl) in
+      let starts = column-is n (found .starts) (ok .starts) from (λ r. r .name .start) (λ i. refl) in
+      let lens = column-is n (found .lens) (ok .lens) from (λ r. r .name .len) (λ i. refl) in (
         ap (λ (l : List ℕ). record { verdict = Verdict.Accepted; steps = n; facts = m; horizon = rounds; start = begin; goal = goal; needs = l; gives = found .second; takes = found .third; starts = found .starts; lens = found .lens }) one
             ∙ ap (λ (l : List ℕ). record { verdict = Verdict.Accepted; steps = n; facts = m; horizon = rounds; start = begin; goal = goal; needs = padded 64 (needs fittingJob); gives = l; takes = found .third; starts = found .starts; lens = found .lens }) two
             ∙ ap (λ (l : List ℕ). record { verdict = Verdict.Accepted; steps = n; facts = m; horizon = rounds; start = begin; goal = goal; needs = padded 64 (needs fittingJob); gives = padded 64 (gives fittingJob); takes = l; starts = found .starts; lens = found .lens }) three

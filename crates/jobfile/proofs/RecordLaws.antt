@@ -232,16 +232,16 @@ record-lawful layout count number room room′ few small =
     below-all r = subst (λ (x : ℕ). mapOf (partsBytes layout r) < 2 ^ x) (all-bits r) (map-below (partsBytes layout r))
 
     -- the name's bit is the one after those of the fields before it
-    behind-front : (r : Record (List ℕ)) → 0 + length (front r) ≡ nameBit layout
-    behind-front r = omega (arith, length-fields (layout .before) (r .before))
+    after-front : (r : Record (List ℕ)) → 0 + length (front r) ≡ nameBit layout
+    after-front r = omega (arith, length-fields (layout .before) (r .before))
 
     tells : (m : ℕ) (r : Record (List ℕ)) → m < 2 ^ bits layout → Marked (front r) m 0 → Marked (rest r) m (nameBit layout) → mapOf (partsBytes layout r) ≡ m
     tells m r vm o p =
-        let all = marked-both (front r) (rest r) m 0 o (subst (λ (x : ℕ). Marked (rest r) m x) (sym (behind-front r)) p) in
+        let all = marked-both (front r) (rest r) m 0 o (subst (λ (x : ℕ). Marked (rest r) m x) (sym (after-front r)) p) in
         sym (sym (div-one m) ∙ marked-map (partsBytes layout r) m 0 (subst (λ (x : ℕ). m < 2 ^ x) (sym (all-bits r) ∙ omega arith) vm) all)
 
     marks : (r : Record (List ℕ)) → Marked (front r) (mapOf (partsBytes layout r)) 0 × Marked (rest r) (mapOf (partsBytes layout r)) (nameBit layout)
     marks r =
         let m = mapOf (partsBytes layout r) in
         let o = both-marked (front r) (rest r) m 0 (map-marked (partsBytes layout r) m 0 (div-one m)) in
-        (o .0, subst (λ (x : ℕ). Marked (rest r) m x) (behind-front r) (o .1))
+        (o .0, subst (λ (x : ℕ). Marked (rest r) m x) (after-front r) (o .1))

@@ -1,5 +1,5 @@
 -- Job files, in the order of docs/RULES.md: the layouts of the kinds, the job that a file states, its reading, its writing, and which jobs
--- are valid; then what the answers of the code mean.
+-- are valid; then what the code's types mean.
 pub mod Layout
 pub mod Job
 pub mod Read

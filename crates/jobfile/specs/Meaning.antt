@@ -7,7 +7,7 @@ use Rattle.sets.specs.Ranges.{listTo}
 use Rattle.reading.specs.declared.Spot.{Spot}
 use Rattle.jobfile.specs.declared.records.Kind.{Kind}
 use Rattle.jobfile.specs.declared.records.Kind.the-variants.{Choice, Fitting}
-use Rattle.jobfile.specs.declared.records.Record as Found
+use Rattle.jobfile.specs.declared.records.ReadRecord.{ReadRecord}
 use Rattle.jobfile.specs.declared.records.Records.{Records}
 use Rattle.reading.specs.Got.{Got, got, refused}
 use Rattle.reading.specs.Meaning.{gotBy}
@@ -32,7 +32,7 @@ abbrev pub setsBy : Kind → ℕ → ℕ → ℕ → List ℕ
 setsBy Choice a b c = a ∷ b ∷ []
 setsBy Fitting a b c = a ∷ b ∷ c ∷ []
 
-abbrev pub recordOf : Kind → Found.Record → Got (Record Spot)
+abbrev pub recordOf : Kind → ReadRecord → Got (Record Spot)
 recordOf kind r = gotBy (record { before = setsBy kind (r .first) (r .second) (r .third); name = r .spot; after = [] }) (r .next)
 
 -- a record of a choice has no third set, and a name lies within its file

@@ -16,23 +16,29 @@ use reading::Refusal;
 use reading::Spot;
 use reading::item;
 use reading::item::Cursor;
+use records::FACT_BYTES;
 use records::Kind;
+use records::WISH_BYTES;
 
-// The kinds: the first byte of a choice file, and of a fitting file.
+// The kind of a choice file: its first byte.
 const CHOICE: u8 = 67;
 
+// The kind of a fitting file.
 const FITTING: u8 = 70;
 
-// The most articles and wishes of a choice.
+// The most articles of a choice.
 const ARTICLES: u64 = 64;
 
+// The most wishes of a choice.
 const WISHES: u64 = 64;
 
-// The most steps and facts of a fitting, and its longest horizon.
+// The most steps of a fitting.
 const STEPS: u64 = 32;
 
+// The most facts of a fitting.
 const FACTS: u64 = 32;
 
+// The longest horizon of a fitting.
 const HORIZON: u64 = 16;
 
 // The elements of an array: as many as there may be articles, for a fitting, too.
@@ -128,7 +134,7 @@ pub fn read_choice(file: &[u8]) -> ReadChoice
     let c = counted.next;
     let n = articles.value as usize;
     let w = counted.value as usize;
-    let order = item::set(file, c, 8, w);
+    let order = item::set(file, c, WISH_BYTES, w);
     let d = order.next;
     let records = records::read_records(file, d, Kind::Choice, w, n);
     let e = records.next;
@@ -168,9 +174,9 @@ pub fn read_fitting(file: &[u8]) -> ReadFitting
     let d = rounds.next;
     let n = steps.value as usize;
     let facts = counted.value as usize;
-    let start = item::set(file, d, 4, facts);
+    let start = item::set(file, d, FACT_BYTES, facts);
     let e = start.next;
-    let goal = item::set(file, e, 4, facts);
+    let goal = item::set(file, e, FACT_BYTES, facts);
     let f = goal.next;
     let records = records::read_records(file, f, Kind::Fitting, facts, n);
     let g = records.next;

@@ -17,6 +17,18 @@ use sets::word;
 // The most bytes of a name.
 const NAME: u64 = 32;
 
+// The bytes of a set of wishes or articles.
+pub const WISH_BYTES: usize = 8;
+
+// The bytes of a set of facts.
+pub const FACT_BYTES: usize = 4;
+
+// The fields that the record of an article may have: wishes, clashes, name.
+const ARTICLE_FIELDS: usize = 3;
+
+// The fields that the record of a step may have: needs, gives, takes, name.
+const STEP_FIELDS: usize = 4;
+
 // Which kind of file records are of.
 pub enum Kind {
     Choice,
@@ -24,7 +36,7 @@ pub enum Kind {
 }
 
 // A record as it is read: its sets in the order of their bits, the third 0 for an article, and its name.
-pub struct Record {
+pub struct ReadRecord {
     pub first: u64,
     pub second: u64,
     pub third: u64,
@@ -33,21 +45,21 @@ pub struct Record {
 }
 
 // The record of an article: wishes, clashes, name.
-fn article(file: &[u8], from: Cursor, count: usize, own: usize) -> Record
+fn article(file: &[u8], from: Cursor, count: usize, own: usize) -> ReadRecord
     ensures { λ r. ⌜ recordOf Kind.Choice r ≡ readFrom from (recordAt spots choice count own (now (file .entry))) ⌝ }
     ensures { λ r. ⌜ (r .third ≡ 0) × (r .spot .start + r .spot .len ≤ length (now (file .entry))) ⌝ }
 {
-    let map = item::bit_map(file, from, 3);
+    let map = item::bit_map(file, from, ARTICLE_FIELDS);
     let m = map.value;
     let a = map.next;
-    let wishes = item::field(file, a, word::bit_at(m, 0) == 1, 8, count);
+    let wishes = item::field(file, a, word::bit_at(m, 0) == 1, WISH_BYTES, count);
     let b = wishes.next;
-    let clashes = item::field(file, b, word::bit_at(m, 1) == 1, 8, own);
+    let clashes = item::field(file, b, word::bit_at(m, 1) == 1, WISH_BYTES, own);
     let c = clashes.next;
     let named = item::name(file, c, word::bit_at(m, 2) == 1, NAME);
     let spot = named.spot;
     let next = named.next;
-    Record {
+    ReadRecord {
         first: wishes.value,
         second: clashes.value,
         third: 0,
@@ -57,23 +69,23 @@ fn article(file: &[u8], from: Cursor, count: usize, own: usize) -> Record
 }
 
 // The record of a step: needs, gives, takes, name.
-fn step(file: &[u8], from: Cursor, count: usize, own: usize) -> Record
+fn step(file: &[u8], from: Cursor, count: usize, own: usize) -> ReadRecord
     ensures { λ r. ⌜ recordOf Kind.Fitting r ≡ readFrom from (recordAt spots fitting count own (now (file .entry))) ⌝ }
     ensures { λ r. ⌜ r .spot .start + r .spot .len ≤ length (now (file .entry)) ⌝ }
 {
-    let map = item::bit_map(file, from, 4);
+    let map = item::bit_map(file, from, STEP_FIELDS);
     let m = map.value;
     let a = map.next;
-    let needs = item::field(file, a, word::bit_at(m, 0) == 1, 4, count);
+    let needs = item::field(file, a, word::bit_at(m, 0) == 1, FACT_BYTES, count);
     let b = needs.next;
-    let gives = item::field(file, b, word::bit_at(m, 1) == 1, 4, count);
+    let gives = item::field(file, b, word::bit_at(m, 1) == 1, FACT_BYTES, count);
     let c = gives.next;
-    let takes = item::field(file, c, word::bit_at(m, 2) == 1, 4, count);
+    let takes = item::field(file, c, word::bit_at(m, 2) == 1, FACT_BYTES, count);
     let d = takes.next;
     let named = item::name(file, d, word::bit_at(m, 3) == 1, NAME);
     let spot = named.spot;
     let next = named.next;
-    Record {
+    ReadRecord {
         first: needs.value,
         second: gives.value,
         third: takes.value,
@@ -83,7 +95,7 @@ fn step(file: &[u8], from: Cursor, count: usize, own: usize) -> Record
 }
 
 // The record of any kind.
-fn read_record(file: &[u8], from: Cursor, kind: Kind, count: usize, own: usize) -> Record
+fn read_record(file: &[u8], from: Cursor, kind: Kind, count: usize, own: usize) -> ReadRecord
     ensures { λ r. ⌜ recordOf kind r ≡ readFrom from (recordAt spots (layoutBy kind) count own (now (file .entry))) ⌝ }
     ensures { λ r. ⌜ Tidy kind (length (now (file .entry))) (r .third) (r .spot .start) (r .spot .len) ⌝ }
 {

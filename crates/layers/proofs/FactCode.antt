@@ -4,19 +4,18 @@ use mathlib.Core.Logic.{_⊎_, inl, inr, _≢_}
 use mathlib.Core.Bool.{Bool, true, false, not, _&&_, _||_, false≢true}
 use mathlib.Core.List.{List, []}
 use Prim.Native.Nat.{ℕ, _+_, _-_, _^_, _≤_, _<_, min}
-use native.Mathlib.Decide.{decLt, ℕ-discrete}
+use native.Mathlib.Decide.{ℕ-discrete}
 use native.Mathlib.Omega.{arith}
 use lib.Bits.{bitAnd, and-le-r}
 use lib.Dec.{eqb}
 use lib.ListN.{getD}
 use borrow.Author.Tests.{not-true}
-use Rattle.sets.specs.Ranges.{num, everyTo, listTo}
+use Rattle.sets.specs.Ranges.{num, everyTo}
 use Rattle.sets.specs.Sets.{bit, _∈_, _⊆_, member, without, part, meets, full, setOf, gathered, lowest}
-use Rattle.sets.proofs.Ranges.{both-true, same-true, num-le, num-both, every-at, at-every, list-at, list-past}
+use Rattle.sets.proofs.Ranges.{both-true, same-true, num-le, num-both, every-at, at-every}
 use Rattle.sets.proofs.Bits.{ext, bit-le, bit-cases, bit-empty, bit-and, bit-without, bit-full, full-below, member-yes, yes-member, num-member, part-in, in-part, part-yes, yes-part, part-full, part-below, member-below, without-in, in-without, without-le, meets-no, no-meets, in-less, less-in}
 use Rattle.sets.proofs.Made.{set-below, set-bit, set-in, in-set, gathered-at, gathered-from}
 use Rattle.sets.proofs.Lowest.{lowest-below, lowest-member}
-use Rattle.sets.proofs.Filled.{Filled, filled-end}
 use Rattle.jobfile.specs.Meaning.{padded}
 use Rattle.sets.specs.Tables.{transposed}
 use Rattle.sets.proofs.Tables.{turned-at}
@@ -174,13 +173,13 @@ outside m a t = same-true (not (meets (without m a) t)) (part (bitAnd t m) a) th
         omega (arith, bit-and t m i, yes-part (bitAnd t m) a y i)))
 
 -- a bit of the row: a fact, another one, whose givers are all against p, and none of them gives both. Such a fact is near.
-row-bit : (f e n s g : Bool) → (f ≡ true → g ≡ true → n ≡ true) → min (min (min (num f - num e) (num n)) 1 - num s) (num g) ≡ num (f && (not e && (g && not s)))
-row-bit false e n s g h = omega arith
-row-bit true true n s g h = omega arith
-row-bit true false n s false h = omega arith
-row-bit true false n true true h = omega (arith, num-le n)
-row-bit true false true false true h = omega arith
-row-bit true false false false true h = absurd (false≢true (h refl refl))
+fact-bit : (f e n s g : Bool) → (f ≡ true → g ≡ true → n ≡ true) → min (min (min (num f - num e) (num n)) 1 - num s) (num g) ≡ num (f && (not e && (g && not s)))
+fact-bit false e n s g h = omega arith
+fact-bit true true n s g h = omega arith
+fact-bit true false n s false h = omega arith
+fact-bit true false n true true h = omega (arith, num-le n)
+fact-bit true false true false true h = omega arith
+fact-bit true false false false true h = absurd (false≢true (h refl refl))
 
 -- The row of p as the code makes it. Near are the facts that vertices against p give, shared those that givers of p give, and likely the other
 -- facts that are near and not shared. Of these the row has those that no free vertex gives: no member that is not against p.
@@ -253,19 +252,8 @@ module _ (w members facts p : ℕ) (gives words turned : List ℕ) (fits : membe
           set-bit (w + w) test q (omega arith)
           ∙ num-both (member likely q) (not (meets free (getD turned q 0)))
           ∙ ap₂ min (num-member likely q ∙ likely-bit q l) (ap num (unfree q l))
-          ∙ row-bit (member facts q) (eqb p q) (member near q) (meets (G p) (G q)) (closed q)
+          ∙ fact-bit (member facts q) (eqb p q) (member near q) (meets (G p) (G q)) (closed q)
           (λ f y. ap (λ (s : ℕ). member s q) en ∙ near-given against q (omega arith) f (against-all q l ∙ y))
-
--- ---- a loop that fills the first words of an array
-
--- the words below i are made, and those after them are 0
-pub filled-padded : (w : ℕ) (f : ℕ → ℕ) (rows : List ℕ) (i n : ℕ) → Filled w f rows i → ((k : ℕ) → i ≤ k → getD rows k 0 ≡ 0) → i ≡ n → rows ≡ padded w (listTo n f)
-filled-padded w f rows i n (size, held) past e =
-    filled-end w (λ k. getD (listTo i f) k 0) rows w (size, λ k l. go k (decLt k i)) refl ∙ ap (λ (m : ℕ). padded w (listTo m f)) e
-  where
-    go : (k : ℕ) → Dec (k < i) → getD rows k 0 ≡ getD (listTo i f) k 0
-    go k (yes l) = held k l ∙ sym (list-at i f 0 k l)
-    go k (no l) = past k (omega arith) ∙ sym (list-past i f 0 k (omega arith))
 
 -- ---- the fact layer
 

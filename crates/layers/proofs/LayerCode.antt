@@ -36,10 +36,10 @@ module _ (w count facts start goal horizon : ℕ) (ns gs ts : List ℕ) where
   stated = record { count = count; facts = facts; steps = listedSteps ns gs ts; start = start; goal = goal; horizon = horizon }
 
   -- the tables of the code are the vertices
-  pub vertices-drawn : Sized w stated → {needs gives takes : List ℕ}
+  pub vertices-listed : Sized w stated → {needs gives takes : List ℕ}
       → needs ≡ listTo (w + w) (vertexWords w true ns) → gives ≡ listTo (w + w) (vertexWords w true gs) → takes ≡ listTo (w + w) (vertexWords w false ts)
       → listedSteps needs gives takes ≡ vertices w stated
-  vertices-drawn ok en eg et =
+  vertices-listed ok en eg et =
       (λ i. listedSteps (en i) (eg i) (et i))
       ∙ (λ i. record {
         needs = λ x. vertex-at w true ns (λ a l. ok .past a (omega (arith, ok .few)) .0) x i;

@@ -62,12 +62,12 @@ module _ (w : ℕ) (S : Steps) (L : Layer) (x : ℕ) where
 -- ---- the vertices that one is mutex with
 
 -- a bit of the row: a member, another one, and one of three tests passes
-row-bit : (m e a b c : Bool) → min (num m - num e) (max (max (num a) (num b)) (num c)) ≡ num (m && (not e && (a || b || c)))
-row-bit false e a b c = omega arith
-row-bit true true a b c = omega arith
-row-bit true false true b c = omega (arith, num-le b, num-le c)
-row-bit true false false true c = omega (arith, num-le c)
-row-bit true false false false c = omega (arith, num-le c)
+round-bit : (m e a b c : Bool) → min (num m - num e) (max (max (num a) (num b)) (num c)) ≡ num (m && (not e && (a || b || c)))
+round-bit false e a b c = omega arith
+round-bit true true a b c = omega arith
+round-bit true false true b c = omega (arith, num-le b, num-le c)
+round-bit true false false true c = omega (arith, num-le c)
+round-bit true false false false c = omega (arith, num-le c)
 
 -- The row of x as the code makes it. Of the others it has those y that need or give what x takes, those that take what x needs or gives, and
 -- those that need what is opposed to x.
@@ -94,7 +94,7 @@ row-made w n S L m x others a b c h eo ea eb ec = set-by-bits n made (mutexWith 
         (member-bit a y (ea y l ∙ ap (meets (S .takes x)) (list-at n (uses S) 0 y l)))
         (member-bit b y (eb y l ∙ meets-turned (uses S x) (S .takes y))))
         (member-bit c y (ec y l)))
-        ∙ row-bit (member m y) (eqb x y) (meets (S .takes x) (uses S y)) (meets (S .takes y) (uses S x)) (meets (opposed w L (S .needs x)) (S .needs y))
+        ∙ round-bit (member m y) (eqb x y) (meets (S .takes x) (uses S y)) (meets (S .takes y) (uses S x)) (meets (opposed w L (S .needs x)) (S .needs y))
 
 -- ---- the sets, and the round layer
 

@@ -12,7 +12,7 @@ use lib.Pow.{pow-lt}
 use Rattle.sets.specs.Ranges.{num, given}
 use Rattle.sets.specs.Sets.{bit, _∈_, member, without, meets, setOf, gathered}
 use Rattle.sets.proofs.Ranges.{both-true, true-both, same-true, same-false, same-yes, same-no, given-yes, given-le}
-use Rattle.sets.proofs.Bits.{ext-below, bit-without, bit-one, only-one, bit-other, not-in, member-below, member-yes, yes-member, member-no, num-member, not-member, part-in, meets-no, no-meets}
+use Rattle.sets.proofs.Bits.{ext-below, bit-without, bit-one, one-alone, bit-other, not-in, member-below, member-yes, yes-member, member-no, num-member, not-member, part-in, meets-no, no-meets}
 use Rattle.sets.proofs.Made.{set-below, set-bit, given-in, gathered-at, gathered-from, gathered-below}
 use Rattle.sets.specs.Tables.{transposed}
 use Rattle.sets.proofs.Tables.{turned-at}
@@ -71,7 +71,7 @@ gathered-test n s test = set-by-bits n all (λ i. member s i && test i) below (�
     there i t =
         let (a, l, e, g) = gathered-from n one s i (yes-member all i t) in
         let (p, m) = given-in (test a) (2 ^ a) i g in
-        rw (only-one a i m) (true-both (member s a) (test a) (member-yes s a e) p)
+        rw (one-alone a i m) (true-both (member s a) (test a) (member-yes s a e) p)
 
     back : (i : ℕ) → i < n → member s i && test i ≡ true → member all i ≡ true
     back i l t =

@@ -20,13 +20,14 @@ use jobfile::ReadFitting;
 use sets::table;
 use sets::word;
 
-// Facts are bits 0 to 31. Of the vertices, bit t is the keeper of fact t, and bit 32 + a is step a.
+// How many facts there can be, bits 0 to 31. Of the vertices, bit t is the keeper of fact t, and bit
+// 32 + a is step a.
 const FACTS: usize = 32;
 
 // The set of all facts.
 const ALL_FACTS: u64 = 0xffff_ffff;
 
-// A layer has a word for each vertex, and tables of vertices have one, too.
+// How many vertices there can be. A layer and a table of vertices have a word for each.
 const VERTICES: usize = 64;
 
 // The members of a layer, and for each of them those that it is mutex with.

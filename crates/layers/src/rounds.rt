@@ -15,7 +15,7 @@ use crate::VERTICES;
 use sets::table;
 use sets::word;
 
-// Whether a vertex may stand over the facts and their mutex words.
+// Whether a vertex is in the layer over the facts with their mutex words.
 fn stands(needs: &[u64; 64], x: usize, facts: u64, words: &[u64; 64]) -> bool
     requires { ⌜ x < 64 ⌝ }
     requires { ⌜ ((v : ℕ) → v < 64 → getD (now needs) v 0 < 2 ^ 32) ⌝ }
@@ -28,7 +28,7 @@ fn stands(needs: &[u64; 64], x: usize, facts: u64, words: &[u64; 64]) -> bool
     word::gather(words, n) & n == 0
 }
 
-// The vertices that stand.
+// The vertices that are in the layer.
 pub fn standing(needs: &[u64; 64], count: usize, facts: u64, words: &[u64; 64]) -> u64
     requires { ⌜ count ≤ 32 ⌝ }
     requires { ⌜ ((v : ℕ) → v < 64 → getD (now needs) v 0 < 2 ^ 32) ⌝ }

@@ -4,7 +4,8 @@ ghost use Rattle.network.specs.Tables.{bothWays};
 use sets::table;
 use sets::word;
 
-// All that each article clashes with. A row is read by a reference, which tells that it fits a word.
+// All that each article clashes with. A row is read by a reference: so the proof knows that it fits a
+// word.
 pub fn both_ways(clashes: &[u64; 64]) -> [u64; 64]
     ensures { λ r. ⌜ r ≡ bothWays 64 (now (clashes .entry)) ⌝ }
 {

@@ -3,9 +3,10 @@ use mathlib.Core.Path.{_≡_, sym, ap, subst, _∙_}
 use mathlib.Core.List.{List, _++_, append-assoc}
 use Prim.Native.Nat.{ℕ, _+_, _*_, _≤_, _<_}
 use native.Mathlib.Omega.{arith}
-use lib.ListN.{length, getD, take, drop, set, replicate, length-set, length-replicate}
-use lib.Seq.{length-take-le, take-all, take-add, take-take, take-append-le, drop-at, getD-set-same, getD-set-other, paste, length-paste, take-paste}
+use lib.ListN.{length, take, drop, set, replicate, length-replicate}
+use lib.Seq.{length-take-le, take-all, take-add, take-take, take-append-le, drop-at, paste, length-paste, take-paste}
 use Rattle.sets.proofs.Ranges.{one-more}
+use Rattle.sets.proofs.Filled.{Filled, filled-turn}
 use Rattle.planning.specs.Rounds.{Fitting}
 use Rattle.planning.specs.Layers.{Layer}
 use Rattle.layers.specs.Meaning.{layer}
@@ -62,17 +63,17 @@ laid-none F = record {
 pub laid-turn : (F : Fitting) (j m : ℕ) (row members words new : List ℕ) → j < 16 → Laid F j members words → layer m row ≡ roundAfter F j → new ≡ paste words (64 * j) row 64
     → Laid F (j + 1) (set members j m) new
 laid-turn F j m row members words new room L e p = record {
-  few = length-set members j m ∙ L .few;
+  few = filled .0;
   many = ap length p ∙ same-many j row words wide fits ∙ L .many;
-  vertices =
-      one-more (λ i. getD (set members j m) i 0 ≡ roundAfter F i .members) j
-      (λ i l. getD-set-other members j i m 0 (λ z. let f : ⊥ = omega arith in f) ∙ L .vertices i l)
-      (getD-set-same members j m 0 (omega (arith, L .few)) ∙ ap (λ (r : Layer). r .members) e);
+  vertices = filled .1;
   rows =
       one-more (λ i. rowOf new i ≡ roundAfter F i .words) j (λ i l. ap (λ (ws : List ℕ). rowOf ws i) p ∙ before j row words wide fits i l ∙ L .rows i l)
       (ap (λ (ws : List ℕ). rowOf ws j) p ∙ here j row words wide fits ∙ ap (λ (r : Layer). r .words) e);
 }
   where
+    filled : Filled 16 (λ i. roundAfter F i .members) (set members j m) (j + 1)
+    filled = filled-turn 16 (λ i. roundAfter F i .members) members j m (L .few, L .vertices) room (ap (λ (r : Layer). r .members) e)
+
     wide : length row ≡ 64
     wide = ap (λ (r : Layer). length (r .words)) e ∙ round-length F j
 

@@ -25,7 +25,7 @@ use Rattle.planning.specs.Layers.{vertices, rivals, standing, roundOver, factLa
 use Rattle.planning.specs.Back.{layerNetwork, Selects, needed, stepsOf, Reaches, Sized}
 use Rattle.planning.proofs.PlanLaws.{PlanOf, none-fewest, some-fewest, reaches-more}
 use Rattle.planning.proofs.WordLaws.{words-length, rounds-words, rounds-turned}
-use Rattle.planning.proofs.LayerLaws.{roomy}
+use Rattle.planning.proofs.LayerLaws.{has-room}
 use Rattle.planning.proofs.BackLaws.{reaches-plan, forth, back}
 use Rattle.supports.specs.Supports.{rowOf}
 use Rattle.extraction.specs.Extraction.{allFacts, Graph, graph, Picks, needsOf, Back, Held, Fine}
@@ -90,7 +90,7 @@ module _ (F : Fitting) (sized : Sized 32 F) where
   vertex-needs x = go (decLt x 32)
     where
       step : (a : ℕ) → Dec (a < F .count) → F .steps .needs a < 2 ^ 32
-      step a (yes l) = roomy 32 F sized (F .steps .needs a) (sized .needs a l)
+      step a (yes l) = has-room 32 F sized (F .steps .needs a) (sized .needs a l)
       step a (no l) = omega (arith, sized .past a (omega arith) .0)
 
       go : Dec (x < 32) → vertices 32 F .needs x < 2 ^ 32
@@ -195,7 +195,7 @@ module _ (F : Fitting) (h : ℕ) (T : Graph) (ok : Tabulated F h T) where
   }
 
   pub goal-inside : F .goal ⊆ allFacts
-  goal-inside = part-full 32 (F .goal) (roomy 32 F (ok .sized) (F .goal) (ok .sized .goal))
+  goal-inside = part-full 32 (F .goal) (has-room 32 F (ok .sized) (F .goal) (ok .sized .goal))
 
   -- ---- what the search answers
 

@@ -15,7 +15,7 @@ mod tabulated;
 use jobfile::ReadFitting;
 
 // The most rounds of a plan, and so the most round layers.
-const ROUNDS: usize = 16;
+const HORIZON: usize = 16;
 
 // How many rounds a plan has, or that there is no plan.
 pub enum Planned {

@@ -9,10 +9,10 @@ ghost use Rattle.reachability.specs.States.{Hopeless};
 ghost use Rattle.planner.specs.Meaning.{plannedBy};
 ghost use Rattle.planner.specs.Planner.{Words};
 ghost use Rattle.planner.specs.Tabulated.{Layered, Copied};
+use crate::HORIZON;
 use crate::Planned;
-use crate::ROUNDS;
 use extraction::ALL_FACTS;
-use extraction::Outcome;
+use extraction::Extraction;
 use jobfile::ReadFitting;
 use sets::table;
 
@@ -64,7 +64,7 @@ pub fn shortest(job: ReadFitting, members: &[u64], words: &[u64], out: &mut [u32
     let needs = layers::with_keepers(&a);
     let gives = layers::with_keepers(&b);
     let carriers = table::transposed(&gives);
-    let mut made: [u32; ROUNDS] = [0; ROUNDS];
+    let mut made: [u32; HORIZON] = [0; HORIZON];
     let mut table: [u64; TABLE] = [0; TABLE];
     let mut k: usize = 0;
     while k <= members.len() {
@@ -84,7 +84,7 @@ pub fn shortest(job: ReadFitting, members: &[u64], words: &[u64], out: &mut [u32
             0,
             0,
         );
-        let Outcome::Refuted(_facts) = outcome else {
+        let Extraction::Refuted(_facts) = outcome else {
             copy(out, &made, k);
             return Planned::Rounds(k);
         };

@@ -6,18 +6,18 @@ ghost use lib.Seq.{paste};
 ghost use Rattle.planning.specs.Back.{Sized};
 ghost use Rattle.planning.specs.Meaning.{fittingIn};
 ghost use Rattle.planner.specs.Tabulated.{Laid};
-use crate::ROUNDS;
+use crate::HORIZON;
 use jobfile::ReadFitting;
 use layers::Layer;
 use sets::copy;
 use supports::ROW;
 
 // The mutex words of all round layers.
-const WORDS: usize = ROW * ROUNDS;
+const WORDS: usize = ROW * HORIZON;
 
 // The vertices of each round layer, and its mutex words.
 pub struct RoundLayers {
-    pub members: [u64; ROUNDS],
+    pub members: [u64; HORIZON],
     pub words: [u64; WORDS],
 }
 
@@ -40,7 +40,7 @@ pub fn round_layers(job: ReadFitting) -> RoundLayers
     let needs = layers::with_keepers(&a);
     let gives = layers::with_keepers(&b);
     let takes = layers::without_keepers(&c);
-    let mut members: [u64; ROUNDS] = [0; ROUNDS];
+    let mut members: [u64; HORIZON] = [0; HORIZON];
     let mut words: [u64; WORDS] = [0; WORDS];
     let mut facts = Layer {
         members: job.start,

@@ -18,10 +18,10 @@ use Rattle.network.specs.Network.{clash, together}
 use Rattle.planning.specs.Rounds.{Fitting, disturb, after, Round, run, Plan}
 use Rattle.planning.specs.Layers.{Layer, vertices, rivals, standing, roundOver, factLayer}
 use Rattle.planning.specs.Back.{layerNetwork, Selects, needed, stepsOf, Reaches, Sized}
-use Rattle.planning.proofs.PlanLaws.{taken, after-kept, after-given, reaches-next, reaches-more, reaches-last, reaches-part}
+use Rattle.planning.proofs.PlanLaws.{takenBy, after-kept, after-given, reaches-next, reaches-more, reaches-last, reaches-part}
 use Rattle.planning.proofs.WordLaws.{words-test, disturb-turned, undisturbed}
 use Rattle.planning.proofs.VertexLaws.{step-needs, step-gives, step-takes, vertex-cases, needs-own, gives-only, standing-below, in-standing}
-use Rattle.planning.proofs.LayerLaws.{Holds, Used, used-below, used-ready, giver, vertex-stands, vertices-apart, roomy, facts-below, holds-below, layers-sound}
+use Rattle.planning.proofs.LayerLaws.{Holds, Used, used-below, used-ready, giver, vertex-stands, vertices-apart, has-room, facts-below, holds-below, layers-sound}
 
 -- ---- rounds that reach the goal are a plan, and a goal that is reached is reached in more rounds
 
@@ -98,10 +98,10 @@ module _ (w : ℕ) (F : Fitting) (ok : Sized w F) (L : Layer) (g x s : ℕ) (sel
   }
 
   -- they take no fact whose keeper is selected
-  spared : (t : ℕ) → t < w → t ∈ x → bit (taken F (stepsOf w x)) t ≡ 0
+  spared : (t : ℕ) → t < w → t ∈ x → bit (takenBy F (stepsOf w x)) t ≡ 0
   spared t l e =
       let all = vertices w F in
-      not-in (taken F (stepsOf w x)) t
+      not-in (takenBy F (stepsOf w x)) t
       (λ h.
       let (a, k, m, n) = gathered-from (F .count) (F .steps .takes) (stepsOf w x) t h in
       no-meets (all .takes (w + a)) (bitOr (all .needs t) (all .gives t)) (undisturbed all (w + a) t (disturb-turned all (w + a) t ∙ quiet t (w + a) (omega arith) e (step-in a m))) t
@@ -125,20 +125,20 @@ module _ (w : ℕ) (F : Fitting) (ok : Sized w F) (L : Layer) (g x s : ℕ) (sel
 module _ (w : ℕ) (F : Fitting) (ok : Sized w F) (L : Layer) (s r : ℕ) (round : Round F s r) (small : s < 2 ^ w) (holds : Holds L s) where
   -- its steps, and the keepers of what it leaves
   abbrev whole : ℕ
-  whole = bitOr (without s (taken F r)) (r * 2 ^ w)
+  whole = bitOr (without s (takenBy F r)) (r * 2 ^ w)
 
   whole-used : (x : ℕ) → x ∈ whole → Used w F s r x
   whole-used x e = go (vertex-cases w F x)
     where
       go : (x < w) ⊎ ((a : ℕ) × (x ≡ w + a)) → Used w F s r x
-      go (inl l) = let (m, z) = in-without s (taken F r) x (omega (arith, bit-or (without s (taken F r)) (r * 2 ^ w) x, shift-low r w x l)) in inl (l, m, z)
+      go (inl l) = let (m, z) = in-without s (takenBy F r) x (omega (arith, bit-or (without s (takenBy F r)) (r * 2 ^ w) x, shift-low r w x l)) in inl (l, m, z)
       go (inr (a, q)) =
           let none : bit s x ≡ 0 = bit-high s w x small (omega arith) in
-          inr (a, q, omega (arith, bit-or (without s (taken F r)) (r * 2 ^ w) x, bit-without s (taken F r) x, ap (bit (r * 2 ^ w)) q, shift-high r w a))
+          inr (a, q, omega (arith, bit-or (without s (takenBy F r)) (r * 2 ^ w) x, bit-without s (takenBy F r) x, ap (bit (r * 2 ^ w)) q, shift-high r w a))
 
   used-whole : (x : ℕ) → Used w F s r x → x ∈ whole
-  used-whole x (inl (l, m, z)) = or-left (without s (taken F r)) (r * 2 ^ w) x (without-in s (taken F r) x m z)
-  used-whole x (inr (a, q, m)) = or-right (without s (taken F r)) (r * 2 ^ w) x (ap (bit (r * 2 ^ w)) q ∙ shift-high r w a ∙ m)
+  used-whole x (inl (l, m, z)) = or-left (without s (takenBy F r)) (r * 2 ^ w) x (without-in s (takenBy F r) x m z)
+  used-whole x (inr (a, q, m)) = or-right (without s (takenBy F r)) (r * 2 ^ w) x (ap (bit (r * 2 ^ w)) q ∙ shift-high r w a ∙ m)
 
   whole-selects : (g : ℕ) → g ⊆ after F s r → Selects w F (roundOver w (vertices w F) (w + F .count) L) g whole
   unfolding roundOver clash together
@@ -176,7 +176,7 @@ module _ (w : ℕ) (F : Fitting) (ok : Sized w F) where
       let L = factLayer w F k in
       let s = run F (F .start) qs in
       let holds : Holds L s = subst (λ (n : ℕ). Holds (factLayer w F n) s) (before .many) (layers-sound w F ok qs (before .rounds)) in
-      let small = roomy w F ok s (holds-below w F ok k s holds) in
+      let small = has-room w F ok s (holds-below w F ok k s holds) in
       let x = whole w F ok L s r round small holds in
       (x, whole-selects w F ok L s r round small holds g e, (qs, reaches-part F k s (needed w F x) qs (whole-needs w F ok L s r round small holds) before))
 

@@ -12,12 +12,12 @@ use lib.ListN.{length, getD}
 use lib.Pow.{pow-mono, pow-lt}
 use Rattle.sets.specs.Sets.{bit, _∈_, member, without, _⊆_, meets, gathered}
 use Rattle.sets.proofs.Ranges.{true-both, both-false}
-use Rattle.sets.proofs.Bits.{bit-empty, only-one, not-in, member-below, member-yes, part-refl, part-in, in-part, part-below, without-le, meets-no}
+use Rattle.sets.proofs.Bits.{bit-empty, one-alone, not-in, member-below, member-yes, part-refl, part-in, in-part, part-below, without-le, meets-no}
 use Rattle.sets.proofs.Made.{set-in, gathered-at, gathered-from, gathered-below}
 use Rattle.planning.specs.Rounds.{Fitting, disturb, after, Round, run, Rounds}
 use Rattle.planning.specs.Layers.{Layer, vertices, opposed, rivals, standing, roundOver, givers, excluded, givenBy, factsOver, factLayer}
 use Rattle.planning.specs.Back.{Sized}
-use Rattle.planning.proofs.PlanLaws.{taken, in-after}
+use Rattle.planning.proofs.PlanLaws.{takenBy, in-after}
 use Rattle.planning.proofs.VertexLaws.{keeper-needs, keeper-gives, keeper-takes, step-needs, step-gives, step-takes, vertex-cases, needs-own, gives-own, standing-in, in-standing}
 use Rattle.planning.proofs.WordLaws.{in-words, disturb-turned, undisturbed, in-excluded, start-word}
 
@@ -27,7 +27,7 @@ Holds L s = (s ⊆ L .members) × ((p q : ℕ) → p ∈ s → q ∈ s → bit (
 
 -- the vertices of a round after the facts s: the keepers of those that no step takes, and the steps
 abbrev pub Used : ℕ → Fitting → ℕ → ℕ → ℕ → Type 0
-Used w F s r x = ((x < w) × (x ∈ s) × (bit (taken F r) x ≡ 0)) ⊎ ((a : ℕ) × (x ≡ w + a) × (a ∈ r))
+Used w F s r x = ((x < w) × (x ∈ s) × (bit (takenBy F r) x ≡ 0)) ⊎ ((a : ℕ) × (x ≡ w + a) × (a ∈ r))
 
 -- ---- vertices whose needs hold
 
@@ -50,7 +50,7 @@ module _ (w : ℕ) (F : Fitting) where
   -- the keeper of a fact that holds is such a vertex
   pub keeper-ready : (s t : ℕ) → t < w → t ∈ s → vertices w F .needs t ⊆ s
   keeper-ready s t l e =
-      rw (keeper-needs w F t l) (in-part (2 ^ t) s (λ i m. ap (bit s) (only-one t i m) ∙ e))
+      rw (keeper-needs w F t l) (in-part (2 ^ t) s (λ i m. ap (bit s) (one-alone t i m) ∙ e))
 
   pub keeper-stands : (L : Layer) (s t : ℕ) → Holds L s → t < w → t ∈ s → t ∈ standing w (vertices w F) (w + F .count) L
   keeper-stands L s t holds l e = ready-stands L s t holds (omega arith) (keeper-ready s t l e)
@@ -84,7 +84,7 @@ module _ (w : ℕ) (F : Fitting) (s r : ℕ) (round : Round F s r) where
       hit : (i : ℕ) → i ∈ F .steps .takes a → i ∈ 2 ^ y → ⊥
       hit i t o =
           let all = gathered-at (F .count) (F .steps .takes) r a (member-below r (F .count) a (round .within) e) e in
-          omega (arith, z, ap (bit (taken F r)) (only-one y i o), part-in (F .steps .takes a) (taken F r) all i t)
+          omega (arith, z, ap (bit (takenBy F r)) (one-alone y i o), part-in (F .steps .takes a) (takenBy F r) all i t)
   spared x y (inr (a, p, ea)) (inr (b, q, eb)) d =
       rw (p, q, step-takes w F a, step-needs w F b, step-gives w F b)
       (undisturbed (F .steps) a b (steps-calm a b (λ c. d (p ∙ ap (λ (n : ℕ). w + n) c ∙ sym q)) ea eb))
@@ -93,7 +93,7 @@ module _ (w : ℕ) (F : Fitting) (s r : ℕ) (round : Round F s r) where
   pub giver : s < 2 ^ w → (p : ℕ) → p ∈ after F s r → (x : ℕ) × Used w F s r x × (p ∈ vertices w F .gives x)
   giver h p e = go (in-after F s r p e)
     where
-      go : ((p ∈ s) × (bit (taken F r) p ≡ 0)) ⊎ ((a : ℕ) × (a < F .count) × (a ∈ r) × (p ∈ F .steps .gives a)) → (x : ℕ) × Used w F s r x × (p ∈ vertices w F .gives x)
+      go : ((p ∈ s) × (bit (takenBy F r) p ≡ 0)) ⊎ ((a : ℕ) × (a < F .count) × (a ∈ r) × (p ∈ F .steps .gives a)) → (x : ℕ) × Used w F s r x × (p ∈ vertices w F .gives x)
       go (inl (a, z)) = let l = member-below s w p h a in (p, inl (l, a, z), gives-own w F p l)
       go (inr (a, l, m, b)) = (w + a, inr (a, refl, m), ap (λ (x : ℕ). bit x p) (step-gives w F a) ∙ b)
 
@@ -151,13 +151,13 @@ module _ (w : ℕ) (F : Fitting) (s r : ℕ) (round : Round F s r) where
 
 module _ (w : ℕ) (F : Fitting) (ok : Sized w F) where
   -- a set of facts of the file has room
-  pub roomy : (s : ℕ) → s < 2 ^ F .facts → s < 2 ^ w
-  roomy s h = omega (arith, pow-mono (ok .room))
+  pub has-room : (s : ℕ) → s < 2 ^ F .facts → s < 2 ^ w
+  has-room s h = omega (arith, pow-mono (ok .room))
 
   pub after-below : (s r : ℕ) → s < 2 ^ F .facts → after F s r < 2 ^ F .facts
   unfolding after
   after-below s r h =
-      or-lt (F .facts) (without s (taken F r)) (gathered (F .count) r (F .steps .gives)) (omega (arith, without-le s (taken F r)))
+      or-lt (F .facts) (without s (takenBy F r)) (gathered (F .count) r (F .steps .gives)) (omega (arith, without-le s (takenBy F r)))
       (gathered-below (F .count) (F .steps .gives) (F .facts) r (λ a l e. ok .gives a l))
 
   pub facts-below : (k : ℕ) → factLayer w F k .members < 2 ^ F .facts
@@ -180,7 +180,7 @@ module _ (w : ℕ) (F : Fitting) (ok : Sized w F) where
 
   pub step-sound : (k s r : ℕ) → Holds (factLayer w F k) s → Round F s r → Holds (factLayer w F (suc k)) (after F s r)
   unfolding factLayer
-  step-sound k s r h round = round-holds w F s r round (factLayer w F k) h (ok .few) (roomy s (holds-below k s h))
+  step-sound k s r h round = round-holds w F s r round (factLayer w F k) h (ok .few) (has-room s (holds-below k s h))
 
   pub rounds-sound : (k s : ℕ) (rs : List ℕ) → Holds (factLayer w F k) s → Rounds F s rs → Holds (factLayer w F (k + length rs)) (run F s rs)
   unfolding run

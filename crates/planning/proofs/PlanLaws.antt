@@ -24,8 +24,8 @@ use Rattle.planning.specs.Rounds.{Fitting, disturb, after, Round, isRoun
 use Rattle.planning.specs.Back.{Reaches}
 
 -- all that a round takes
-abbrev pub taken : Fitting → ℕ → ℕ
-taken F r = gathered (F .count) r (F .steps .takes)
+abbrev pub takenBy : Fitting → ℕ → ℕ
+takenBy F r = gathered (F .count) r (F .steps .takes)
 
 -- some plan has k rounds
 abbrev pub PlanOf : Fitting → ℕ → Type 0
@@ -137,21 +137,21 @@ module _ (F : Fitting) where
   abbrev gained : ℕ → ℕ
   gained r = gathered (F .count) r (F .steps .gives)
 
-  pub after-kept : (s r i : ℕ) → i ∈ s → bit (taken F r) i ≡ 0 → i ∈ after F s r
+  pub after-kept : (s r i : ℕ) → i ∈ s → bit (takenBy F r) i ≡ 0 → i ∈ after F s r
   unfolding after
-  after-kept s r i e z = or-left (without s (taken F r)) (gained r) i (without-in s (taken F r) i e z)
+  after-kept s r i e z = or-left (without s (takenBy F r)) (gained r) i (without-in s (takenBy F r) i e z)
 
   pub after-given : (s r i a : ℕ) → a < F .count → a ∈ r → i ∈ F .steps .gives a → i ∈ after F s r
   unfolding after
   after-given s r i a l e g =
-      or-right (without s (taken F r)) (gained r) i (part-in (F .steps .gives a) (gained r) (gathered-at (F .count) (F .steps .gives) r a l e) i g)
+      or-right (without s (takenBy F r)) (gained r) i (part-in (F .steps .gives a) (gained r) (gathered-at (F .count) (F .steps .gives) r a l e) i g)
 
-  pub in-after : (s r i : ℕ) → i ∈ after F s r → ((i ∈ s) × (bit (taken F r) i ≡ 0)) ⊎ ((a : ℕ) × (a < F .count) × (a ∈ r) × (i ∈ F .steps .gives a))
+  pub in-after : (s r i : ℕ) → i ∈ after F s r → ((i ∈ s) × (bit (takenBy F r) i ≡ 0)) ⊎ ((a : ℕ) × (a < F .count) × (a ∈ r) × (i ∈ F .steps .gives a))
   unfolding after
   in-after s r i e = go (bit-cases (gained r) i)
     where
-      go : (bit (gained r) i ≡ 0) ⊎ (i ∈ gained r) → ((i ∈ s) × (bit (taken F r) i ≡ 0)) ⊎ ((a : ℕ) × (a < F .count) × (a ∈ r) × (i ∈ F .steps .gives a))
-      go (inl z) = inl (in-without s (taken F r) i (omega (arith, bit-or (without s (taken F r)) (gained r) i)))
+      go : (bit (gained r) i ≡ 0) ⊎ (i ∈ gained r) → ((i ∈ s) × (bit (takenBy F r) i ≡ 0)) ⊎ ((a : ℕ) × (a < F .count) × (a ∈ r) × (i ∈ F .steps .gives a))
+      go (inl z) = inl (in-without s (takenBy F r) i (omega (arith, bit-or (without s (takenBy F r)) (gained r) i)))
       go (inr g) = inr (gathered-from (F .count) (F .steps .gives) r i g)
 
   -- ---- rounds one after the other

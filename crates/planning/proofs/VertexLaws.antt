@@ -9,7 +9,7 @@ use native.Mathlib.Omega.{arith}
 use borrow.Author.Tests.{lt-ltb, le-ltb, not-true}
 use Rattle.sets.specs.Sets.{bit, _∈_, _⊆_, part, meets}
 use Rattle.sets.proofs.Ranges.{both-true, true-both}
-use Rattle.sets.proofs.Bits.{bit-one, only-one, part-yes, yes-part}
+use Rattle.sets.proofs.Bits.{bit-one, one-alone, part-yes, yes-part}
 use Rattle.sets.proofs.Made.{set-below, set-in, in-set}
 use Rattle.planning.specs.Rounds.{Fitting}
 use Rattle.planning.specs.Layers.{Layer, vertices, opposed, stands, standing}
@@ -50,7 +50,7 @@ module _ (w : ℕ) (F : Fitting) where
   gives-own x l = rw (keeper-gives x l) (bit-one x)
 
   pub gives-only : (x i : ℕ) → x < w → i ∈ vertices w F .gives x → i ≡ x
-  gives-only x i l e = only-one x i (ap (λ (s : ℕ). bit s i) (sym (keeper-gives x l)) ∙ e)
+  gives-only x i l e = one-alone x i (ap (λ (s : ℕ). bit s i) (sym (keeper-gives x l)) ∙ e)
 
   -- ---- the vertices that stand
 

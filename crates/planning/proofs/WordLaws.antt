@@ -86,8 +86,8 @@ module _ (n m : ℕ) (test : ℕ → ℕ → Bool) where
 -- ---- symmetric words
 
 -- to be mutex counts both ways
-abbrev pub Turned : Layer → Type 0
-Turned L = (p q : ℕ) → bit (getD (L .words) p 0) q ≡ bit (getD (L .words) q 0) p
+abbrev pub Mutual : Layer → Type 0
+Mutual L = (p q : ℕ) → bit (getD (L .words) p 0) q ≡ bit (getD (L .words) q 0) p
 
 pub disturb-turned : (S : Steps) (a b : ℕ) → disturb S a b ≡ disturb S b a
 unfolding disturb
@@ -100,7 +100,7 @@ undisturbed S a b e = neither (meets (S .takes a) (bitOr (S .needs b) (S .gives 
 
 module _ (w : ℕ) (F : Fitting) where
   -- a member of s is mutex with one of t, or the other way round
-  opposed-turned : (L : Layer) → ((p : ℕ) → getD (L .words) p 0 < 2 ^ w) → Turned L → (s t : ℕ) → meets (opposed w L s) t ≡ meets (opposed w L t) s
+  opposed-turned : (L : Layer) → ((p : ℕ) → getD (L .words) p 0 < 2 ^ w) → Mutual L → (s t : ℕ) → meets (opposed w L s) t ≡ meets (opposed w L t) s
   unfolding opposed
   opposed-turned L below turned s t = same-false (meets (opposed w L s) t) (meets (opposed w L t) s) (half s t) (half t s)
     where
@@ -114,7 +114,7 @@ module _ (w : ℕ) (F : Fitting) where
           let (j, l, c, d) = gathered-from w f t i a in
           no-meets (gathered w s f) t e j (part-in (f i) (gathered w s f) (gathered-at w f s i (member-below (f j) w i (below j) d) b) j (turned i j ∙ d)) c)
 
-  pub rivals-turned : (L : Layer) → ((p : ℕ) → getD (L .words) p 0 < 2 ^ w) → Turned L → (x y : ℕ) → rivals w (vertices w F) L x y ≡ rivals w (vertices w F) L y x
+  pub rivals-turned : (L : Layer) → ((p : ℕ) → getD (L .words) p 0 < 2 ^ w) → Mutual L → (x y : ℕ) → rivals w (vertices w F) L x y ≡ rivals w (vertices w F) L y x
   unfolding rivals
   rivals-turned L below turned x y =
       ap₂ _||_ (disturb-turned (vertices w F) x y) (opposed-turned L below turned (vertices w F .needs x) (vertices w F .needs y))
@@ -144,7 +144,7 @@ module _ (w : ℕ) (F : Fitting) where
       (λ gx. part-yes (givers w (vertices w F) R q) (getD (R .words) x 0) (in-part (givers w (vertices w F) R q) (getD (R .words) x 0) (λ y gy. h x y gx gy)))))
       (ap not (meets-no (givers w (vertices w F) R p) (givers w (vertices w F) R q) d))
 
-  pub excluded-turned : (R : Layer) → Turned R → (p q : ℕ) → excluded w (vertices w F) R p q ≡ excluded w (vertices w F) R q p
+  pub excluded-turned : (R : Layer) → Mutual R → (p q : ℕ) → excluded w (vertices w F) R p q ≡ excluded w (vertices w F) R q p
   excluded-turned R turned p q = same-true (excluded w (vertices w F) R p q) (excluded w (vertices w F) R q p) (half p q) (half q p)
     where
       half : (p q : ℕ) → excluded w (vertices w F) R p q ≡ true → excluded w (vertices w F) R q p ≡ true
@@ -170,18 +170,18 @@ module _ (w : ℕ) (F : Fitting) where
   rounds-words L p = words-below (w + w) (standing w (vertices w F) (w + F .count) L) (rivals w (vertices w F) L) p
 
   -- a round layer over symmetric words has symmetric words
-  pub over-turned : (L : Layer) → ((p : ℕ) → getD (L .words) p 0 < 2 ^ w) → Turned L → Turned (roundOver w (vertices w F) (w + F .count) L)
+  pub over-turned : (L : Layer) → ((p : ℕ) → getD (L .words) p 0 < 2 ^ w) → Mutual L → Mutual (roundOver w (vertices w F) (w + F .count) L)
   unfolding roundOver
   over-turned L below turned = words-turned (w + w) (standing w (vertices w F) (w + F .count) L) (rivals w (vertices w F) L) (rivals-turned L below turned)
 
-  pub facts-turned : (k : ℕ) → Turned (factLayer w F k)
+  pub facts-turned : (k : ℕ) → Mutual (factLayer w F k)
   unfolding factLayer factsOver
   facts-turned zero p q = omega (arith, ap (λ (x : ℕ). bit x q) (start-word p), ap (λ (x : ℕ). bit x p) (start-word q), bit-empty p, bit-empty q)
   facts-turned (suc k) p q =
       words-turned w (givenBy w (vertices w F) (roundOver w (vertices w F) (w + F .count) (factLayer w F k))) (excluded w (vertices w F) (roundOver w (vertices w F) (w + F .count) (factLayer w F k)))
       (excluded-turned (roundOver w (vertices w F) (w + F .count) (factLayer w F k)) (over-turned (factLayer w F k) (facts-words k) (facts-turned k))) p q
 
-  pub rounds-turned : (k : ℕ) → Turned (roundOver w (vertices w F) (w + F .count) (factLayer w F k))
+  pub rounds-turned : (k : ℕ) → Mutual (roundOver w (vertices w F) (w + F .count) (factLayer w F k))
   rounds-turned k = over-turned (factLayer w F k) (facts-words k) (facts-turned k)
 
   pub facts-self : (k p : ℕ) → bit (getD (factLayer w F k .words) p 0) p ≡ 0

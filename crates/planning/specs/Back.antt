@@ -1,5 +1,5 @@
 -- Working back from a goal, one round at a time (docs/RULES.md, "Planner"): a round layer is a mutex network, and a round for a goal
--- is a selection in it.
+-- is a selection in it; and when there is room for a fitting.
 use mathlib.Core.Path.{_≡_}
 use mathlib.Core.List.{List}
 use Prim.Native.Nat.{ℕ, _+_, _/_, _^_, _≤_, _<_}

@@ -37,7 +37,7 @@ vertices w F = record {
 unfoldable pub opposed : ℕ → Layer → ℕ → ℕ
 opposed w L s = gathered w s (λ i. getD (L .words) i 0)
 
--- whether a vertex may stand: its needs lie in the fact layer, no two of them mutex there
+-- whether a vertex is in the layer: its needs lie in the fact layer, no two of them mutex there
 unfoldable pub stands : ℕ → Steps → Layer → ℕ → Bool
 stands w S L x = part (S .needs x) (L .members) && not (meets (opposed w L (S .needs x)) (S .needs x))
 
@@ -45,7 +45,7 @@ stands w S L x = part (S .needs x) (L .members) && not (meets (opposed w L (S .n
 unfoldable pub rivals : ℕ → Steps → Layer → ℕ → ℕ → Bool
 rivals w S L x y = disturb S x y || meets (opposed w L (S .needs x)) (S .needs y)
 
--- the vertices that stand
+-- the vertices that are in the layer
 unfoldable pub standing : ℕ → Steps → ℕ → Layer → ℕ
 standing w S top L = setOf top (stands w S L)
 

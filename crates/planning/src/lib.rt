@@ -1,1 +1,2 @@
-// The planning graph is definitions and theorems; `layers` makes its layers.
+// Rounds, plans and the planning graph: definitions and theorems, no code. `layers` has the code of the
+// layers.

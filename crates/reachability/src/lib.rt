@@ -40,7 +40,7 @@ enum Place {
 }
 
 // The facts after a step.
-fn after(facts: u64, gives: u64, takes: u64) -> u64
+fn after_step(facts: u64, gives: u64, takes: u64) -> u64
     ensures { λ r. ⌜ r ≡ bitOr (without facts takes) gives ⌝ }
 {
     word::without(facts, takes) | gives
@@ -65,17 +65,17 @@ fn next_slot(at: usize) -> usize
     at + 1
 }
 
-// A slot as an index.
+// The number in a slot, as an index.
 fn wide(x: u16) -> usize
     ensures { λ r. ⌜ r ≡ x ⌝ }
 {
     x as usize
 }
 
-// Looks at `PROBES` slots, from one on that the bits of the state tell. A slot has the number of a
-// state, counted from 1, and 0 if it is free; what it says is believed only if that state is the one
-// looked for.
-fn place_of(states: &[u64], slots: &[u16], count: usize, state: u64) -> Place
+// Looks at `PROBES` slots, from the one that `slot_of` gives on. A slot has the number of a state,
+// counted from 1, and 0 if it is free; what it says is believed only if that state is the one looked
+// for.
+fn look_up(states: &[u64], slots: &[u16], count: usize, state: u64) -> Place
     requires { ⌜ (count ≤ length (now states)) × (length (now slots) ≡ 32768) ⌝ }
     ensures { λ r. ⌜ Placed (now (states .entry)) (length (now (slots .entry))) count state r ⌝ }
 {
@@ -103,7 +103,7 @@ fn insert(states: &mut [u64], slots: &mut [u16], count: usize, state: u64) -> us
     requires { ⌜ (count ≤ length (now states)) × (length (now states) ≡ 8192) × (length (now slots) ≡ 32768) ⌝ }
     ensures { λ r. ⌜ Entered (now (states .entry)) (now (states .exit)) count state r ⌝ }
 {
-    let place = place_of(states, slots, count, state);
+    let place = look_up(states, slots, count, state);
     match place {
         Place::Known => count,
         Place::Free(at) => {
@@ -134,7 +134,7 @@ fn try_step(
     if word::without(needs, facts) != 0 {
         return count;
     }
-    insert(states, slots, count, after(facts, gives, takes))
+    insert(states, slots, count, after_step(facts, gives, takes))
 }
 
 // Enters all that steps lead to from state i.

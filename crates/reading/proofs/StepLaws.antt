@@ -148,22 +148,22 @@ module _ (f : List ℕ) (at bytes : ℕ) where
 module _ (limit : ℕ) (f : List ℕ) (from : Cursor) (item : Item) (e : itemGot item ≡ readFrom from (lengthAt limit f)) where
   letters : ℕ → Got Spot
   letters start =
-      refuse (ltb (length f) (start + item .value)) EndsEarly (length f) (got (spots .standing start (item .value)) (start + item .value))
+      refuse (ltb (length f) (start + item .value)) EndsEarly (length f) (got (spots .present start (item .value)) (start + item .value))
 
-  behind-length : readFrom from (nameAt spots limit f) ≡ readFrom (item .next) letters
+  after-length : readFrom from (nameAt spots limit f) ≡ readFrom (item .next) letters
   unfolding nameAt letters
-  behind-length = advance (item .value) (item .next) from (lengthAt limit f) _ (nameAt spots limit f) e (λ n. refl)
+  after-length = advance (item .value) (item .next) from (lengthAt limit f) _ (nameAt spots limit f) e (λ n. refl)
 
   pub name-refused : {r : Refusal} → item .next ≡ Cursor.Refused r → gotBy (spots .absent) (item .next) ≡ readFrom from (nameAt spots limit f)
-  name-refused q = from-refused (spots .absent) (item .next) letters q ∙ sym behind-length
+  name-refused q = from-refused (spots .absent) (item .next) letters q ∙ sym after-length
 
   pub name-short : {start : ℕ} → item .next ≡ Cursor.At start → ltb (length f) (start + item .value) ≡ true → refused EndsEarly (length f) ≡ readFrom from (nameAt spots limit f)
   unfolding letters
-  name-short {start} q h = from-at (item .next) letters q (rw h) ∙ sym behind-length
+  name-short {start} q h = from-at (item .next) letters q (rw h) ∙ sym after-length
 
   pub name-found : {start : ℕ} → item .next ≡ Cursor.At start → ltb (length f) (start + item .value) ≡ false → got (record { start = start; len = item .value }) (start + item .value) ≡ readFrom from (nameAt spots limit f)
   unfolding letters
-  name-found {start} q h = from-at (item .next) letters q (rw h) ∙ sym behind-length
+  name-found {start} q h = from-at (item .next) letters q (rw h) ∙ sym after-length
 
 -- the loop of a number goes from its highest byte down: v is what the bytes from i on spell
 module _ (f : List ℕ) (at bytes i v : ℕ) where

@@ -44,13 +44,13 @@ fieldAt bytes limit = checked (leb (2 ^ limit)) AbsentMember (amountAt bytes)
 -- What a name is taken for: its bytes, as the job has it, or the spot where they are, as the code has it.
 pub record Naming (N : Type 0) : Type 0 where
   pub absent : N
-  pub standing : ℕ → ℕ → N
+  pub present : ℕ → ℕ → N
 
 abbrev pub bytesIn : List ℕ → Naming (List ℕ)
-bytesIn f = record { absent = take 0 f; standing = λ start len. take len (drop start f) }
+bytesIn f = record { absent = take 0 f; present = λ start len. take len (drop start f) }
 
 abbrev pub spots : Naming Spot
-spots = record { absent = record { start = 0; len = 0 }; standing = λ start len. record { start = start; len = len } }
+spots = record { absent = record { start = 0; len = 0 }; present = λ start len. record { start = start; len = len } }
 
 -- reasons 5 and 7: the length of a name; reason 2: its bytes
 unfoldable pub lengthAt : ℕ → Reader ℕ
@@ -59,4 +59,4 @@ lengthAt limit = checked (ltb limit) LongName (checked (λ v. eqb v 0) EmptyFiel
 unfoldable pub nameAt : {N : Type 0} → Naming N → ℕ → Reader N
 nameAt names limit f at =
     andThen (lengthAt limit f at) λ len start.
-    refuse (ltb (length f) (start + len)) EndsEarly (length f) (got (names .standing start len) (start + len))
+    refuse (ltb (length f) (start + len)) EndsEarly (length f) (got (names .present start len) (start + len))

@@ -23,13 +23,13 @@ use Rattle.network.specs.Groups.{groupsTo}
 use Rattle.choice.specs.Choice.{soleGoal}
 use Rattle.planning.specs.Rounds.{fittingOf, fewest}
 use Rattle.planning.proofs.PlanLaws.{fewest-some}
-use Rattle.arguments.specs.Answers.{onJob, unless, behind, foundOr, passed, Said, refusedBy, answered, said}
+use Rattle.arguments.specs.Answers.{onJob, unless, afterTests, foundOr, passed, Said, refusedBy, answered, said}
 use Rattle.calls.specs.declared.PlanAnswer.{PlanAnswer}
 use Rattle.calls.specs.Choose.{Chosen, chooseIn, chooseOf}
 use Rattle.calls.specs.Offer.{offerIn, offerOf}
 use Rattle.calls.specs.Plan.{planIn, planOf, planTold, Buffer}
 use Rattle.calls.proofs.CallLaws.{on-job}
-use Rattle.report.specs.Outcome.{Result, selected, planned, mapped, room, RoundWords, outcomeOf, RoundsFit}
+use Rattle.report.specs.Outcome.{Result, selected, planned, mapped, blankWords, RoundWords, outcomeOf, RoundsFit}
 
 -- ---- a file of another kind is refused at its first byte, as the empty file is
 
@@ -66,7 +66,7 @@ module _ (f old new : List ℕ) {t : Bool} (h : t ≡ eqb (getD f 0 0) 70) where
 
 -- ---- as many words as rounds
 
-pub no-rounds : replicate 16 0 ≡ room
+pub no-rounds : replicate 16 0 ≡ blankWords
 unfolding listTo
 no-rounds = refl
 
@@ -79,7 +79,7 @@ plan-fits file buffer k = go (readJob fittings file)
     some-rounds none e = let z : _≡_ {A = ℕ} 0 1 = cc in absurd (omega arith)
 
     tested : (job : Job (List ℕ)) (short : Bool) → ltb (length buffer) (horizon job) ≡ short
-        → said (behind (unless short ShortBuffer passed) (foundOr (fewest (fittingOf job) (horizon job)) NoPlan)) ≡ answered k → k ≤ length buffer
+        → said (afterTests (unless short ShortBuffer passed) (foundOr (fewest (fittingOf job) (horizon job)) NoPlan)) ≡ answered k → k ≤ length buffer
     tested job true s e = let z : _≡_ {A = ℕ} 0 1 = cc in absurd (omega arith)
     tested job false s e = le-trans (fewest-some (fittingOf job) (horizon job) k (some-rounds (fewest (fittingOf job) (horizon job)) e) .0) (ltb-false (length buffer) (horizon job) s)
 

@@ -46,11 +46,11 @@ textOf (answered (selected c)) words = chosenText 64 (c .selection) (c .aside)
 textOf (answered (planned k)) words = roundsText 32 k words
 
 -- what the program prints of a file: it lends 16 words, all 0, and prints the text of the outcome and of some round words
-abbrev pub room : List ℕ
-room = listTo 16 (λ i. 0)
+abbrev pub blankWords : List ℕ
+blankWords = listTo 16 (λ i. 0)
 
 abbrev pub Prints : List ℕ → List ℕ → Type 0
-Prints file text = (words : List ℕ) × RoundWords file room words × (text ≡ textOf (outcomeOf file room) words)
+Prints file text = (words : List ℕ) × RoundWords file blankWords words × (text ≡ textOf (outcomeOf file blankWords) words)
 
 -- what the code's outcome says
 abbrev pub outcomeTold : OutcomeAnswer → Said Result

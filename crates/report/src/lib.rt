@@ -8,10 +8,8 @@ use calls::ChoiceAnswer;
 use calls::PlanAnswer;
 use reading::Refusal;
 use sets::ArticleSet;
+use text::HORIZON;
 use text::Page;
-
-// The most rounds of a plan.
-const HORIZON: usize = 16;
 
 // What comes of a file: a selection with the set aside, how many rounds a plan has, or a refusal.
 pub enum OutcomeAnswer {

@@ -141,14 +141,14 @@ pub bit-one : (t : ℕ) → t ∈ 2 ^ t
 bit-one zero = bit-low 1
 bit-one (suc t) = bit-suc (2 ^ suc t) t ∙ ap (λ (x : ℕ). bit x t) (pow-half t) ∙ bit-one t
 
-pub only-one : (t i : ℕ) → i ∈ 2 ^ t → i ≡ t
-only-one zero zero e = refl
-only-one zero (suc i) e = omega (arith, bit-suc 1 i, bit-empty i)
-only-one (suc t) zero e = omega (arith, bit-low (2 ^ suc t), pow-suc 2 t)
-only-one (suc t) (suc i) e = ap suc (only-one t i (ap (λ (x : ℕ). bit x i) (sym (pow-half t)) ∙ sym (bit-suc (2 ^ suc t) i) ∙ e))
+pub one-alone : (t i : ℕ) → i ∈ 2 ^ t → i ≡ t
+one-alone zero zero e = refl
+one-alone zero (suc i) e = omega (arith, bit-suc 1 i, bit-empty i)
+one-alone (suc t) zero e = omega (arith, bit-low (2 ^ suc t), pow-suc 2 t)
+one-alone (suc t) (suc i) e = ap suc (one-alone t i (ap (λ (x : ℕ). bit x i) (sym (pow-half t)) ∙ sym (bit-suc (2 ^ suc t) i) ∙ e))
 
 pub bit-other : (t i : ℕ) → i ≢ t → bit (2 ^ t) i ≡ 0
-bit-other t i d = not-in (2 ^ t) i (λ e. d (only-one t i e))
+bit-other t i d = not-in (2 ^ t) i (λ e. d (one-alone t i e))
 
 -- ---- parts
 
@@ -196,8 +196,8 @@ part-below k a b h l = omega (arith, part-le a b h)
 pub without-none : (a b : ℕ) → a ⊆ b → without a b ≡ 0
 without-none a b h = ext (without a b) 0 (λ i. omega (arith, bit-without a b i, h i, bit-empty i))
 
-pub none-without : (a b : ℕ) → without a b ≡ 0 → a ⊆ b
-none-without a b e i = omega (arith, bit-without a b i, ap (λ (x : ℕ). bit x i) e, bit-empty i)
+pub without-part : (a b : ℕ) → without a b ≡ 0 → a ⊆ b
+without-part a b e i = omega (arith, bit-without a b i, ap (λ (x : ℕ). bit x i) e, bit-empty i)
 
 -- ---- the tests say what the statements say
 
@@ -230,7 +230,7 @@ part-yes a b h = eq-eqb (without a b) 0 (without-none a b h)
 
 pub yes-part : (a b : ℕ) → part a b ≡ true → a ⊆ b
 unfolding part
-yes-part a b t = none-without a b (eqb-true (without a b) 0 t)
+yes-part a b t = without-part a b (eqb-true (without a b) 0 t)
 
 -- "if i is a member, b" as a test
 pub where-in : (s i : ℕ) (b : Bool) → (i ∈ s → b ≡ true) → not (member s i) || b ≡ true
@@ -361,7 +361,7 @@ apart-add a b e = or-disjoint a b e
 
 -- one member more adds its power
 pub more-add : (s t : ℕ) → bit s t ≡ 0 → bitOr s (2 ^ t) ≡ s + 2 ^ t
-more-add s t z = or-disjoint s (2 ^ t) (in-apart s (2 ^ t) (λ i e o. member-differs s i t e z (only-one t i o)))
+more-add s t z = or-disjoint s (2 ^ t) (in-apart s (2 ^ t) (λ i e o. member-differs s i t e z (one-alone t i o)))
 
 -- a set less one of its members, and that member, make the set
 pub less-more : (s t : ℕ) → t ∈ s → bitOr (without s (2 ^ t)) (2 ^ t) ≡ s

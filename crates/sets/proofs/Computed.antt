@@ -24,14 +24,14 @@ pub tested : setOf 300 (leb 3) ≡ 2 ^ 300 - 8
 unfolding setOf sumTo
 tested = refl
 
-pub together : gathered 300 (2 ^ 299 + 5) (λ i. 2 ^ i) ≡ 2 ^ 299 + 5
+pub gathers : gathered 300 (2 ^ 299 + 5) (λ i. 2 ^ i) ≡ 2 ^ 299 + 5
 unfolding gathered unionTo bit
-together = refl
+gathers = refl
 
 -- every two members are tested in their order
-pub ordered : everyPair 300 (2 ^ 299 + 5) ltb ≡ true
+pub pairs : everyPair 300 (2 ^ 299 + 5) ltb ≡ true
 unfolding everyPair everyTo bit
-ordered = refl
+pairs = refl
 
 -- the first number from 3 on of which 12 is a part, among as many as one likes
 pub first : firstFrom (part 12) (2 ^ 300) 3 ≡ some 12

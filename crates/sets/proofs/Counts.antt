@@ -10,7 +10,7 @@ use lib.Count.{ones, ones-step, ones-le, ones-ones}
 use Rattle.sets.specs.Ranges.{given, sumTo}
 use Rattle.sets.specs.Sets.{bit, _∈_, member, without, _⊆_, full, unionTo, gathered, countIn, count}
 use Rattle.sets.proofs.Ranges.{sum-low, sum-mono, sum-cong, sum-add}
-use Rattle.sets.proofs.Bits.{bit-low, bit-suc, bit-and, bit-or, bit-without, half-below, below-pow, below-left, below-right, without-le, only-one, in-apart, member-differs, less-same, less-more}
+use Rattle.sets.proofs.Bits.{bit-low, bit-suc, bit-and, bit-or, bit-without, half-below, below-pow, below-left, below-right, without-le, one-alone, in-apart, member-differs, less-same, less-more}
 
 -- ---- two other forms of the count
 
@@ -104,7 +104,7 @@ count-one (suc t) =
 
 pub count-more : (s t : ℕ) → bit s t ≡ 0 → count (bitOr s (2 ^ t)) ≡ count s + 1
 count-more s t z =
-    omega (arith, count-apart s (2 ^ t) (in-apart s (2 ^ t) (λ i e o. member-differs s i t e z (only-one t i o))), count-one t)
+    omega (arith, count-apart s (2 ^ t) (in-apart s (2 ^ t) (λ i e o. member-differs s i t e z (one-alone t i o))), count-one t)
 
 pub count-less : (s t : ℕ) → t ∈ s → count (without s (2 ^ t)) + 1 ≡ count s
 count-less s t e = sym (count-more (without s (2 ^ t)) t (less-same s t)) ∙ ap count (less-more s t e)

@@ -3,11 +3,12 @@ use mathlib.Core.Path.{_≡_, refl, sym, ap, ap₂, _∙_}
 use mathlib.Core.List.{List}
 use Prim.Native.Nat.{ℕ, _+_, _≤_, _<_}
 use native.Mathlib.Numerals.{add-one}
+use native.Mathlib.Decide.{decLt}
 use native.Mathlib.Omega.{arith}
 use lib.ListN.{length, getD, set, replicate, length-set, length-replicate}
 use lib.Seq.{getD-set-same, getD-set-other, ext-getD, paste, paste-zero, paste-suc}
 use Rattle.sets.specs.Ranges.{listTo}
-use Rattle.sets.proofs.Ranges.{one-more, list-length, list-at}
+use Rattle.sets.proofs.Ranges.{one-more, list-length, list-at, list-past}
 
 -- ---- filling: the rows below i are made
 
@@ -29,6 +30,19 @@ pub filled-end : (w : ℕ) (f : ℕ → ℕ) (rows : List ℕ) (i : ℕ) → Fil
 filled-end w f rows i (size, held) e =
     ext-getD 0 rows (listTo w f) (size ∙ sym (list-length w f))
     (λ k l. let h : k < w = omega (arith, size) in held k (omega arith) ∙ sym (list-at w f 0 k h))
+
+-- ---- filling in part: the rows from i on are still 0
+
+pub past-turn : (rows : List ℕ) (i x : ℕ) → ((k : ℕ) → i ≤ k → getD rows k 0 ≡ 0) → (k : ℕ) → i + 1 ≤ k → getD (set rows i x) k 0 ≡ 0
+past-turn rows i x past k l = getD-set-other rows i k x 0 (λ e. let z : ⊥ = omega arith in z) ∙ past k (omega arith)
+
+pub filled-part : (w : ℕ) (f : ℕ → ℕ) (rows : List ℕ) (i n : ℕ) → Filled w f rows i → ((k : ℕ) → i ≤ k → getD rows k 0 ≡ 0) → i ≡ n → rows ≡ listTo w (λ k. getD (listTo n f) k 0)
+filled-part w f rows i n (size, held) past e =
+    filled-end w (λ k. getD (listTo i f) k 0) rows w (size, λ k l. go k (decLt k i)) refl ∙ ap (λ (m : ℕ). listTo w (λ k. getD (listTo m f) k 0)) e
+  where
+    go : (k : ℕ) → Dec (k < i) → getD rows k 0 ≡ getD (listTo i f) k 0
+    go k (yes l) = held k l ∙ sym (list-at i f 0 k l)
+    go k (no l) = past k (omega arith) ∙ sym (list-past i f 0 k (omega arith))
 
 -- ---- copying: the first i words are at the places from `at` on, and all others are as they were
 

@@ -14,6 +14,9 @@ pub const WIDTH: usize = 64;
 // The set of all these numbers.
 pub const ALL: u64 = 0xffff_ffff_ffff_ffff;
 
+// The highest of them.
+const LAST: usize = 63;
+
 // The set whose one member is i.
 pub fn unit(i: usize) -> u64
     requires { ⌜ i < 64 ⌝ }
@@ -107,7 +110,7 @@ pub fn highest(s: u64) -> usize
     requires { ⌜ (s ≡ 0 → ⊥) ⌝ }
     ensures { λ r. ⌜ (r < 64) × (2 ^ r ≤ s) × (s < 2 ^ suc r) ⌝ }
 {
-    63 - (u64::leading_zeros(s) as usize)
+    LAST - (u64::leading_zeros(s) as usize)
 }
 
 // s less its lowest member, which it has.

@@ -1,2 +1,2 @@
--- The questions of one round layer.
+-- What is asked of one round layer.
 pub mod Supports

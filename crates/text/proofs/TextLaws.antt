@@ -27,8 +27,8 @@ module _ (n : ℕ) where
   then p q r t e f = f ∙ ap (λ (x : List ℕ). take n (x ++ t)) e ∙ cut-again n p t
 
   -- t after the texts p and s of a page
-  behind : (p q r s t : List ℕ) → q ≡ take n (p ++ s) → r ≡ take n (q ++ t) → r ≡ take n (p ++ (s ++ t))
-  behind p q r s t e f = then (p ++ s) q r t e f ∙ ap (λ (x : List ℕ). take n x) (append-assoc p s t)
+  then-both : (p q r s t : List ℕ) → q ≡ take n (p ++ s) → r ≡ take n (q ++ t) → r ≡ take n (p ++ (s ++ t))
+  then-both p q r s t e f = then (p ++ s) q r t e f ∙ ap (λ (x : List ℕ). take n x) (append-assoc p s t)
 
   -- a text that has room is there as a whole
   has-room : (r t : List ℕ) → r ≡ take n t → length t ≤ n → r ≡ t
@@ -56,7 +56,7 @@ module _ (n : ℕ) where
   -- one byte more of a text
   pub say-turn : (p q r text : List ℕ) (i : ℕ) → i < length text → q ≡ take n (p ++ take i text) → r ≡ take n (q ++ (getD text i 0 ∷ [])) → r ≡ take n (p ++ take (i + 1) text)
   say-turn p q r text i l e f =
-      behind p q r (take i text) (getD text i 0 ∷ []) e f
+      then-both p q r (take i text) (getD text i 0 ∷ []) e f
       ∙ ap (λ (x : List ℕ). take n (p ++ x)) (sym (take-suc text i 0 l) ∙ ap (λ (k : ℕ). take k text) (sym (add-one i)))
 
   pub say-end : (p q text : List ℕ) (i : ℕ) → length text ≤ i → q ≡ take n (p ++ take i text) → q ≡ take n (p ++ text)
@@ -66,13 +66,13 @@ module _ (n : ℕ) where
   pub set-turn : (p q r : List ℕ) (s i : ℕ) → q ≡ take n (p ++ members i s) → r ≡ take n (q ++ cond (member s i) (32 ∷ decimal i) []) → r ≡ take n (p ++ members (i + 1) s)
   unfolding members
   set-turn p q r s i e f =
-      behind p q r (members i s) (cond (member s i) (32 ∷ decimal i) []) e f ∙ ap (λ (k : ℕ). take n (p ++ members k s)) (sym (add-one i))
+      then-both p q r (members i s) (cond (member s i) (32 ∷ decimal i) []) e f ∙ ap (λ (k : ℕ). take n (p ++ members k s)) (sym (add-one i))
 
   -- one round more of a plan
   pub rounds-turn : (p q r words : List ℕ) (w i : ℕ) → q ≡ take n (p ++ roundTexts w i words) → r ≡ take n (q ++ roundText w i (getD words i 0)) → r ≡ take n (p ++ roundTexts w (i + 1) words)
   unfolding roundTexts
   rounds-turn p q r words w i e f =
-      behind p q r (roundTexts w i words) (roundText w i (getD words i 0)) e f ∙ ap (λ (k : ℕ). take n (p ++ roundTexts w k words)) (sym (add-one i))
+      then-both p q r (roundTexts w i words) (roundText w i (getD words i 0)) e f ∙ ap (λ (k : ℕ). take n (p ++ roundTexts w k words)) (sym (add-one i))
 
 -- ---- the digits of a number
 
@@ -107,13 +107,13 @@ module _ (n : ℕ) (p : List ℕ) where
 
   pub number-more : (q r : List ℕ) (m d : ℕ) → 10 ≤ m → d ≡ 48 + m % 10 → q ≡ take n (p ++ decimal (m / 10)) → r ≡ take n (q ++ (d ∷ [])) → r ≡ take n (p ++ decimal m)
   number-more q r m d l e f g =
-      behind n p q r (decimal (m / 10)) (d ∷ []) f g
+      then-both n p q r (decimal (m / 10)) (d ∷ []) f g
       ∙ ap (λ (x : ℕ). take n (p ++ (decimal (m / 10) ++ (x ∷ [])))) e
       ∙ ap (λ (x : List ℕ). take n (p ++ x)) (sym (more-digits m l))
 
   pub one-member : (q r : List ℕ) (s i b : ℕ) → b ≡ bit s i → b ≡ 1 → q ≡ take n (p ++ (32 ∷ [])) → r ≡ take n (q ++ decimal i) → r ≡ take n (p ++ cond (member s i) (32 ∷ decimal i) [])
   one-member q r s i b e f g h =
-      behind n p q r (32 ∷ []) (decimal i) g h
+      then-both n p q r (32 ∷ []) (decimal i) g h
       ∙ ap (λ (t : Bool). take n (p ++ cond t (32 ∷ decimal i) [])) (sym (eq-eqb (bit s i) 1 (sym e ∙ f)))
 
   pub no-member : (s i b : ℕ) → b ≡ bit s i → (b ≡ 1 → ⊥) → p ≡ take n (p ++ []) → p ≡ take n (p ++ cond (member s i) (32 ∷ decimal i) [])
@@ -122,9 +122,9 @@ module _ (n : ℕ) (p : List ℕ) where
   pub round-made : (a b c d : List ℕ) (w i round : ℕ) → a ≡ take n (p ++ decimal (i + 1)) → b ≡ take n (a ++ (58 ∷ [])) → c ≡ take n (b ++ members w round)
       → d ≡ take n (c ++ (10 ∷ [])) → d ≡ take n (p ++ roundText w i round)
   round-made a b c d w i round e f g h =
-      behind n p c d (decimal (suc i) ++ (58 ∷ []) ++ members w round) (10 ∷ [])
-      (behind n p b c (decimal (suc i) ++ (58 ∷ [])) (members w round)
-      (behind n p a b (decimal (suc i)) (58 ∷ []) (e ∙ ap (λ (k : ℕ). take n (p ++ decimal k)) (add-one i)) f) g) h
+      then-both n p c d (decimal (suc i) ++ (58 ∷ []) ++ members w round) (10 ∷ [])
+      (then-both n p b c (decimal (suc i) ++ (58 ∷ [])) (members w round)
+      (then-both n p a b (decimal (suc i)) (58 ∷ []) (e ∙ ap (λ (k : ℕ). take n (p ++ decimal k)) (add-one i)) f) g) h
 
 -- ---- how long the texts are
 

@@ -13,23 +13,28 @@ use sets::word;
 // The bytes that a page has room for.
 const ROOM: usize = 2048;
 
-// The most articles of a selection, the most steps of a round, and the most rounds.
+// The most articles of a selection.
 const ARTICLES: usize = 64;
 
+// The most steps of a round.
 const STEPS: usize = 32;
 
-const HORIZON: usize = 16;
+// The most rounds of a plan.
+pub const HORIZON: usize = 16;
 
-// The bytes of characters: the digit 0, a blank, a colon, the end of a line.
+// The byte of the digit 0.
 const ZERO: u8 = 48;
 
+// The byte of a blank.
 const BLANK: u8 = 32;
 
+// The byte of a colon.
 const COLON: u8 = 58;
 
+// The byte that ends a line.
 const NEWLINE: u8 = 10;
 
-// Numbers are written with ten digits.
+// The base in which numbers are written.
 const TEN: u64 = 10;
 
 // The bytes of a text are the first `len`.

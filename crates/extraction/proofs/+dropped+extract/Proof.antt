@@ -18,7 +18,7 @@ use Rattle.supports.specs.Supports.{rowOf}
 use Rattle.supports.proofs.LayerLaws.{lowest-one, asked-none}
 use Rattle.extraction.specs.Extraction.{allFacts, Graph, graph, Back, Held, Nogoods, Noted, Extracted}
 use Rattle.extraction.proofs.NogoodLaws.{noted-refutes}
-use Rattle.extraction.proofs.ExtractLaws.{asked-set, held-more, bottom-held, bottom-lacks, blocked-refuses, refuses-blocked, known-refuses, open-picks, open-needs, leaf, Turning, turning-start, turning-more, turning-last, layer-asked, entry-asked, refuses-whole, stored-refused}
+use Rattle.extraction.proofs.ExtractLaws.{asked-set, held-more, bottom-held, bottom-lacks, blocked-refutes, refutes-blocked, known-refutes, open-picks, open-needs, leaf, Turning, turning-start, turning-more, turning-last, layer-asked, entry-asked, refutes-whole, stored-refused}
 use borrow.Fn.Kinds.{In}
 use borrow.Fn.PlainCycle.{Measures, is, falls, and}
 use Rattle.extraction.proofs.dropped.Reads as dropped
@@ -185,7 +185,7 @@ dropped-loop-again-2 t c =
     let m = lowest-one 64 (l .left) (c .before .before .before .before .before .before .before .before .before .before .before .before .before .lowest .ensures .0) (c .before .before .before .before .before .before .before .before .before .before .before .before .before .lowest .ensures .1) in
     let g = c .before .before .inner .given in
     let q = c .before .before .before .before .before .before .before .before .extract .last .1 .1 .1 .1 .1 .1 .0 in
-    let (sub, gone) = refuses-whole T (now (a .carriers)) fine (a .j) (c .before .before .before .before .before .before .before .before .before .less2 .result) 0 (g .0 .0) (subst (λ r. Extracted T (a .j) (c .before .before .before .before .before .before .before .before .before .less2 .result) allFacts 0 0 q r) (g .1) (c .before .before .before .before .before .before .before .before .extract .ensures .0)) in
+    let (sub, gone) = refutes-whole T (now (a .carriers)) fine (a .j) (c .before .before .before .before .before .before .before .before .before .less2 .result) 0 (g .0 .0) (subst (λ r. Extracted T (a .j) (c .before .before .before .before .before .before .before .before .before .less2 .result) allFacts 0 0 q r) (g .1) (c .before .before .before .before .before .before .before .before .extract .ensures .0)) in
     let fewer : c .before .before .before .before .before .before .before .before .before .less2 .result ⊆ l .least = subst (λ (s : ℕ). s ⊆ l .least) (sym (c .before .before .before .before .before .before .before .before .before .less2 .ensures)) (λ i. omega (arith, bit-without (l .least) (2 ^ b) i)) in (
       omega (arith, c .before .before .before .before .before .before .before .before .extract .kept .1 .1 .1 .1 .1 .1 .0, plan-kept),
       omega (arith, c .before .before .before .before .before .before .before .before .extract .kept .1 .1 .1 .1 .1 .1 .1 .0, table-kept),
@@ -307,7 +307,7 @@ refuted t c =
     let T = graphOf t s in
     let n = x .before .before .before .before .before .gather .result in
     let q = x .extract .last .1 .1 .1 .1 .1 .1 .0 in
-    refuses-whole T (now (a .carriers)) (s .pre .1 .0 .0) (a .k - 1) n 0 (g .0 .0) (subst (λ r. Extracted T (a .k - 1) n allFacts 0 0 q r) (g .1) (x .extract .ensures .0))
+    refutes-whole T (now (a .carriers)) (s .pre .1 .0 .0) (a .k - 1) n 0 (g .0 .0) (subst (λ r. Extracted T (a .k - 1) n allFacts 0 0 q r) (g .1) (x .extract .ensures .0))
 
 abbrev made : (t : ℕ) → extract-lts.After-slice-known7 (extract-calls t) (extract-at t) extract.Post extract-Inv-loop extract-μ-loop → extract-lts.After-dropped (extract-calls t) (extract-at t) extract.Post extract-Inv-loop extract-μ-loop
 made t c = c .before .before .before .before
@@ -384,7 +384,7 @@ extract-returns-3 t c =
     let g = c .before .seen .given in
     let (part, none) = noted-refutes T (now (a .carriers)) fine (now (a .table)) known (a .k) (a .goal) (g .0 .0) (omega (arith, u .before .before .before .if1 .left))
     (subst (λ r. Noted (now (a .table)) (a .k) (a .goal) r) (g .1) (u .lookup .ensures)) in
-    (known-refuses T (a .k) (a .goal) (a .may) (a .must) (a .why) (g .0 .0) (u .before .before .before .if1 .left) part none why-in, known)
+    (known-refutes T (a .k) (a .goal) (a .may) (a .must) (a .why) (g .0 .0) (u .before .before .before .if1 .left) part none why-in, known)
 
 extract-enum-told : (t : ℕ) → extract-lts.Need-enum-told (extract-calls t) (extract-at t) extract.Post extract-Inv-loop extract-μ-loop
 extract-enum-told t c = search needs
@@ -453,7 +453,7 @@ extract-returns-4 t c =
     let fits = u .before .before .before .before .before .before .before .before .before .before .before .shared-slice-known .given (a .k - 1) .fits in
     let e = x .explain .result in
     let (_, small) = entry-asked T (now (a .carriers)) fine (a .k) (a .goal) e few goal-in (x .explain .ensures .part) in
-    let refused = blocked-refuses T (a .k) (a .goal) (a .may) (a .must) (a .why) e (rounds-left t u)
+    let refused = blocked-refutes T (a .k) (a .goal) (a .may) (a .must) (a .why) e (rounds-left t u)
     (leaf T (a .k - 1) (a .may) (u .open-to .result) (u .open-to .ensures) (a .goal) (a .must) (a .why) e fits (x .explain .ensures)) in (
       refused,
       stored-refused T (now (a .carriers)) fine (first .result) (now (a .table)) (c .before .before .store .last .0) (a .k) (a .goal) (a .may) (a .must) (a .why) e
@@ -626,7 +626,7 @@ extract-loop-again t c =
     let (plan-kept, table-kept, right, turning) = l .inv in
     let less = y .before .less .result in
     let q = y .extract2 .last .1 .1 .1 .1 .1 .1 .0 in
-    let blocked = refuses-blocked T (a .k) (a .goal) less (l .kept) (l .reason) (g .0 .0) (rounds-left t u)
+    let blocked = refutes-blocked T (a .k) (a .goal) less (l .kept) (l .reason) (g .0 .0) (rounds-left t u)
     (subst (λ r. Extracted T (a .k) (a .goal) less (l .kept) (l .reason) q r) (g .1) (y .extract2 .ensures .0)) in (
       omega (arith, y .extract2 .kept .1 .1 .1 .1 .1 .1 .0, plan-kept),
       omega (arith, y .extract2 .kept .1 .1 .1 .1 .1 .1 .1 .0, table-kept),
@@ -665,7 +665,7 @@ extract-returns-7 t c =
     let first = u .before .before .before .before .before .before .whole in
     let (_, _, right, turning) = l .inv in
     let (_, small) = entry-asked T (now (a .carriers)) fine (a .k) (a .goal) (l .reason) few goal-in (turning .part) in
-    let refused = blocked-refuses T (a .k) (a .goal) (a .may) (a .must) (a .why) (l .reason) (rounds-left t u)
+    let refused = blocked-refutes T (a .k) (a .goal) (a .may) (a .must) (a .why) (l .reason) (rounds-left t u)
     (turning-last T (a .k - 1) (a .goal) (a .may) (a .must) (a .why) (made t d .dropped .result) (l .left) (l .kept) (l .reason) (least t d .1) turning (h .loop-test .left)) in (
       refused,
       stored-refused T (now (a .carriers)) fine (first .result) (l .table) (c .before .before .store2 .last .0) (a .k) (a .goal) (a .may) (a .must) (a .why) (l .reason)

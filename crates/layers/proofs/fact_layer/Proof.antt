@@ -6,7 +6,7 @@ use native.Mathlib.Omega.{arith}
 use Rattle.planning.specs.Layers.{factLayer}
 use Rattle.planning.specs.Meaning.{fittingIn}
 use Rattle.layers.specs.Meaning.{layer, roomy}
-use Rattle.layers.proofs.LayerCode.{vertices-drawn, needs-fit, layer-start, layer-round, layer-facts}
+use Rattle.layers.proofs.LayerCode.{vertices-listed, needs-fit, layer-start, layer-round, layer-facts}
 use Rattle.layers.proofs.fact_layer.Statement.{statement}
 use Rattle.layers.proofs.fact_layer.Tie as tie
 
@@ -48,7 +48,7 @@ loop-again c =
     let e = c .before .before .before .before .before .before .before .before .before .before .before .before .before .before .before .before .before in
     let a = e .args in
     let l = c .before .before .before .before .before .before .before .loop in
-    let steps = vertices-drawn 32 (a .job .steps) (a .job .facts) (a .job .start) (a .job .goal) (a .job .horizon) (a .job .needs) (a .job .gives) (a .job .takes) (e .pre) (c .before .before .before .before .before .before .before .before .before .before .before .before .with-keepers .ensures) (c .before .before .before .before .before .before .before .before .before .before .with-keepers2 .ensures) (c .before .before .before .before .before .before .before .before .without-keepers .ensures) in
+    let steps = vertices-listed 32 (a .job .steps) (a .job .facts) (a .job .start) (a .job .goal) (a .job .horizon) (a .job .needs) (a .job .gives) (a .job .takes) (e .pre) (c .before .before .before .before .before .before .before .before .before .before .before .before .with-keepers .ensures) (c .before .before .before .before .before .before .before .before .before .before .with-keepers2 .ensures) (c .before .before .before .before .before .before .before .before .without-keepers .ensures) in
     let round = layer-round (fittingIn (a .job)) _ (l .i) _ _ steps (l .inv .1) (c .before .round-over .ensures) in
     (omega (arith, c .before .before .before .before .before .before .loop-test .taken), layer-facts (fittingIn (a .job)) (c .before .before .before .before .before .before .before .before .before .before .before .before .with-keepers .result) (c .before .before .before .before .before .before .before .before .before .before .with-keepers2 .result) (c .before .before .before .before .before .before .before .before .without-keepers .result) (l .i) _ _ steps round (c .facts-over .ensures))
 

@@ -2,7 +2,7 @@
 use borrow.Author.Needs.{needs}
 use Prim.Native.Nat.{_-_}
 use Rattle.planning.specs.Meaning.{fittingIn}
-use Rattle.layers.proofs.LayerCode.{vertices-drawn, needs-fit, layer-round}
+use Rattle.layers.proofs.LayerCode.{vertices-listed, needs-fit, layer-round}
 use Rattle.layers.proofs.round_layer.Statement.{statement}
 use Rattle.layers.proofs.round_layer.Tie as tie
 
@@ -31,7 +31,7 @@ returns : tie.Need-returns
 returns c =
     let e = c .before .before .before .before .before .before .before .before .before .before .before .before .before .before in
     let a = e .args in
-    let steps = vertices-drawn 32 (a .job .steps) (a .job .facts) (a .job .start) (a .job .goal) (a .job .horizon) (a .job .needs) (a .job .gives) (a .job .takes) (e .pre .0) (c .before .before .before .before .before .before .before .before .before .with-keepers .ensures) (c .before .before .before .before .before .before .before .with-keepers2 .ensures) (c .before .before .before .before .before .without-keepers .ensures) in
+    let steps = vertices-listed 32 (a .job .steps) (a .job .facts) (a .job .start) (a .job .goal) (a .job .horizon) (a .job .needs) (a .job .gives) (a .job .takes) (e .pre .0) (c .before .before .before .before .before .before .before .before .before .with-keepers .ensures) (c .before .before .before .before .before .before .before .with-keepers2 .ensures) (c .before .before .before .before .before .without-keepers .ensures) in
     layer-round (fittingIn (a .job)) _ (a .k - 1) _ _ steps (c .before .fact-layer .ensures) (c .round-over .ensures)
 
 pub round-layer-spec : {M : Type 1} → statement M

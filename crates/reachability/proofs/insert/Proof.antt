@@ -9,8 +9,8 @@ use Rattle.reachability.proofs.StateLaws.{grown-none, grown-one}
 use Rattle.reachability.proofs.insert.Statement.{statement}
 use Rattle.reachability.proofs.insert.Tie as tie
 
-place-of-requires : tie.Need-place-of-requires
-place-of-requires c κs = search needs
+look-up-requires : tie.Need-look-up-requires
+look-up-requires c κs = search needs
 
 enum-told : tie.Need-enum-told
 enum-told c = search needs
@@ -43,14 +43,14 @@ mul-slots : tie.Need-mul-slots
 mul-slots c =
     let w = c .before .before .before .before .before .before .before .before .before in
     let free : c .before .before .place .given .0 .0 < length (w .args .slots .now) =
-    subst (Placed (w .args .states .now) (length (w .args .slots .now)) (w .args .count) (w .args .state)) (c .before .before .place .given .1) (c .before .before .before .before .place-of .ensures) in
+    subst (Placed (w .args .states .now) (length (w .args .slots .now)) (w .args .count) (w .args .state)) (c .before .before .place .given .1) (c .before .before .before .before .look-up .ensures) in
     omega (arith, w .pre .2)
 
 slice-write-slots : tie.Need-slice-write-slots
 slice-write-slots c =
     let w = c .before .before .before .before .before .before .before .before .before in
     let free : c .before .before .place .given .0 .0 < length (w .args .slots .now) =
-    subst (Placed (w .args .states .now) (length (w .args .slots .now)) (w .args .count) (w .args .state)) (c .before .before .place .given .1) (c .before .before .before .before .place-of .ensures) in
+    subst (Placed (w .args .states .now) (length (w .args .slots .now)) (w .args .count) (w .args .state)) (c .before .before .place .given .1) (c .before .before .before .before .look-up .ensures) in
     free
 
 add-result : tie.Need-add-result
@@ -70,7 +70,7 @@ returns-2 c =
     let w = c .before .before .before .before .before .before .before in
     λ d. (
       grown-none (w .args .states .now) (w .args .count) (w .pre .0),
-      subst (Placed (w .args .states .now) (length (w .args .slots .now)) (w .args .count) (w .args .state)) (c .enum-told .given .1) (c .before .before .place-of .ensures),
+      subst (Placed (w .args .states .now) (length (w .args .slots .now)) (w .args .count) (w .args .state)) (c .enum-told .given .1) (c .before .before .look-up .ensures),
     )
 
 same-length-5 : tie.Need-same-length-5
@@ -97,7 +97,7 @@ pub insert-spec : {M : Type 1} → statement M
 insert-spec =
     tie.close
     (tie.spec
-    place-of-requires
+    look-up-requires
     enum-told
     enum-known-place
     same-length

@@ -18,8 +18,8 @@ returns c =
       λ h. absurd (c .if1 .taken (c .before .without .ensures ∙ without-none (w .args .needs) (w .args .facts) h)),
     )
 
-after-requires : tie.Need-after-requires
-after-requires c κs = search needs
+after-step-requires : tie.Need-after-step-requires
+after-step-requires c κs = search needs
 
 insert-requires : tie.Need-insert-requires
 insert-requires c κs = search needs
@@ -33,7 +33,7 @@ same-length-2 c = search needs
 returns-2 : tie.Need-returns-2
 returns-2 c =
     let i = c .before .before .before .before .insert in
-    λ d. let (g, m) = i .ensures d in (g, λ h. subst (Among (i .last .0) (i .result)) (c .before .before .before .before .before .after .ensures) m)
+    λ d. let (g, m) = i .ensures d in (g, λ h. subst (Among (i .last .0) (i .result)) (c .before .before .before .before .before .after-step .ensures) m)
 
 pub try-step-spec : {M : Type 1} → statement M
 try-step-spec =
@@ -41,7 +41,7 @@ try-step-spec =
     (tie.spec
     without-requires
     returns
-    after-requires
+    after-step-requires
     insert-requires
     same-length
     same-length-2

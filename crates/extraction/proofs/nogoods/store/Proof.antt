@@ -17,8 +17,8 @@ returns-2 c =
 slice-read-last : tie.Need-slice-read-last
 slice-read-last c = search needs
 
-after-requires : tie.Need-after-requires
-after-requires c κs = search needs
+next-place-requires : tie.Need-next-place-requires
+next-place-requires c κs = search needs
 
 slice-write-table : tie.Need-slice-write-table
 slice-write-table c = search needs
@@ -41,7 +41,7 @@ same-length c = search needs
 returns-3 : tie.Need-returns-3
 returns-3 c =
     let a = c .before .before .before .before .before .args in
-    stored-at (a .on) (a .k) (a .facts) (a .table .now) (c .after .result) (c .after .result) (c .before .before .before .if1 .left) (c .after .ensures .1)
+    stored-at (a .on) (a .k) (a .facts) (a .table .now) (c .next-place .result) (c .next-place .result) (c .before .before .before .if1 .left) (c .next-place .ensures .1)
 
 pub store-spec : {M : Type 1} → statement M
 store-spec =
@@ -50,7 +50,7 @@ store-spec =
     returns
     returns-2
     slice-read-last
-    after-requires
+    next-place-requires
     slice-write-table
     mul-table
     add-table

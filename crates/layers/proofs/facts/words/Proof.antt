@@ -6,13 +6,11 @@ use mathlib.Core.List.{List, []}
 use Prim.Native.Nat.{ℕ, _-_, _≤_}
 use native.Mathlib.Omega.{arith}
 use lib.ListN.{getD}
-use lib.Seq.{getD-set-other}
 use Rattle.sets.proofs.Ranges.{zeros}
-use Rattle.sets.proofs.Filled.{Filled, filled-start, filled-turn}
+use Rattle.sets.proofs.Filled.{Filled, filled-start, filled-turn, past-turn, filled-part}
 use Rattle.planning.specs.Rounds.{listedSteps}
 use Rattle.planning.specs.Layers.{mutexWord, mutexes, excluded}
 use Rattle.layers.specs.Meaning.{layer}
-use Rattle.layers.proofs.FactCode.{filled-padded}
 use Rattle.layers.proofs.facts.words.Statement.{statement}
 use Rattle.layers.proofs.facts.words.Tie as tie
 
@@ -50,7 +48,7 @@ loop-again c =
     let h = c .before .loop-test .taken in (
       omega (arith, h),
       filled-turn 64 (wordIn (a .gives .now) (a .words .now) (a .members) (a .facts)) (l .all) (l .p) (c .row .result) (l .inv .1) (omega (arith, h)) (c .row .ensures),
-      λ k m. getD-set-other (l .all) (l .p) k (c .row .result) 0 (λ q. let z : ⊥ = omega arith in z) ∙ l .inv .2 k (omega arith),
+      past-turn (l .all) (l .p) (c .row .result) (l .inv .2),
     )
 
 returns : tie.Need-returns Inv-loop μ-loop
@@ -58,7 +56,7 @@ unfolding mutexes
 returns c =
     let a = c .before .before .args in
     let l = c .before .loop in
-    filled-padded 64 (wordIn (a .gives .now) (a .words .now) (a .members) (a .facts)) (l .all) (l .p) 32 (l .inv .1) (l .inv .2) (omega (arith, l .inv .0, c .loop-test .left))
+    filled-part 64 (wordIn (a .gives .now) (a .words .now) (a .members) (a .facts)) (l .all) (l .p) 32 (l .inv .1) (l .inv .2) (omega (arith, l .inv .0, c .loop-test .left))
 
 pub words-spec : {M : Type 1} → statement M
 words-spec =

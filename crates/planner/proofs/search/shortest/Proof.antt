@@ -16,7 +16,7 @@ use Rattle.planner.specs.declared.Planned.the-variants as Planned
 use Rattle.planner.specs.Meaning.{plannedBy}
 use Rattle.planner.specs.Planner.{Words}
 use Rattle.planner.specs.Tabulated.{Copied}
-use Rattle.planner.proofs.SearchLaws.{held-same, refused-more}
+use Rattle.planner.proofs.SearchLaws.{held-same, refuted-more}
 use Rattle.planner.proofs.PlannerLaws.{Tabulated, Searched, tabulated, members-length, unplanned, goal-inside, fine, solved-count, solved-words}
 use Rattle.planner.proofs.search.shortest.Statement.{statement}
 use Rattle.planner.proofs.search.shortest.Tie as tie
@@ -159,7 +159,7 @@ loop-again c =
       out,
       e .ensures .1,
       subst (λ (n : ℕ). (i : ℕ) → i < n → Back T i (job .goal) → ⊥) (let next : l .k + 1 ≡ _ = omega arith in next)
-          (refused-more T (c .before .before .before .before .before .before .before .before .before .before .before .before .before .before .before .transposed .result) fine (l .k) (job .goal) (c .before .before .before .outcome .given .0 .0) refused none),
+          (refuted-more T (c .before .before .before .before .before .before .before .before .before .before .before .before .before .before .before .transposed .result) fine (l .k) (job .goal) (c .before .before .before .outcome .given .0 .0) refused none),
       tab,
       fine,
     )

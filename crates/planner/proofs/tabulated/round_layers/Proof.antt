@@ -6,7 +6,7 @@ use native.Mathlib.Omega.{arith}
 use Rattle.planning.specs.Layers.{factLayer}
 use Rattle.planning.specs.Meaning.{fittingIn}
 use Rattle.layers.specs.Meaning.{layer, roomy}
-use Rattle.layers.proofs.LayerCode.{vertices-drawn, needs-fit, layer-start, layer-round, layer-facts}
+use Rattle.layers.proofs.LayerCode.{vertices-listed, needs-fit, layer-start, layer-round, layer-facts}
 use Rattle.planner.specs.Tabulated.{Laid}
 use Rattle.planner.proofs.LaidLaws.{laid-none, laid-turn, laid-end}
 use Rattle.planner.proofs.tabulated.round_layers.Statement.{statement}
@@ -72,7 +72,7 @@ loop-again c =
     let ts = k .without-keepers in
     let e = k .before .before .before .before .before .before .before .before .before in
     let job = e .args .job in
-    let steps = vertices-drawn 32 (job .steps) (job .facts) (job .start) (job .goal) (job .horizon) (job .needs) (job .gives) (job .takes) (e .pre .0) (ns .ensures) (gs .ensures) (ts .ensures) in
+    let steps = vertices-listed 32 (job .steps) (job .facts) (job .start) (job .goal) (job .horizon) (job .needs) (job .gives) (job .takes) (e .pre .0) (ns .ensures) (gs .ensures) (ts .ensures) in
     let round = layer-round (fittingIn job) _ (l .j) _ _ steps (l .inv .1) (r .round-over .ensures) in
     (omega (arith, t .if1 .taken), layer-facts (fittingIn job) (ns .result) (gs .result) (ts .result) (l .j) _ _ steps round (c .facts-over .ensures), laid-turn (fittingIn job) (l .j) _ _ (l .members) (l .words) (p .put .last .0) (omega (arith, t .if1 .taken, e .pre .1)) (l .inv .2) round (p .put .ensures))
 

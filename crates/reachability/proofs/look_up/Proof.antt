@@ -1,9 +1,9 @@
--- `reachability::place_of` meets its contract. The invariant: the slot looked at is one of the table. The measure is how many slots are left.
+-- `reachability::look_up` meets its contract. The invariant: the slot looked at is one of the table. The measure is how many slots are left.
 use borrow.Author.Needs.{needs}
 use Prim.Native.Nat.{_-_, _<_}
 use native.Mathlib.Omega.{arith}
-use Rattle.reachability.proofs.place_of.Statement.{statement}
-use Rattle.reachability.proofs.place_of.Tie as tie
+use Rattle.reachability.proofs.look_up.Statement.{statement}
+use Rattle.reachability.proofs.look_up.Tie as tie
 
 abbrev Inv-loop : tie.InvT-loop
 Inv-loop states slots count state at₀ left₀ at left = at < 32768
@@ -58,8 +58,8 @@ loop-again c = search needs
 returns-3 : tie.Need-returns-3 Inv-loop μ-loop
 returns-3 c = search needs
 
-pub place-of-spec : {M : Type 1} → statement M
-place-of-spec =
+pub look-up-spec : {M : Type 1} → statement M
+look-up-spec =
     tie.close
     (tie.spec
     Inv-loop
