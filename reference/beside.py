@@ -21,7 +21,7 @@ from drawn import damaged, drawn_choice, drawn_fitting, drawn_name, full_fitting
 from drawn import small_choices, small_fittings, walk, wide_choice
 from library import Library, slices
 from long import LONG as LONG_SEARCHES
-from reader import CHOICE, CHOICES, FITTING, FITTINGS, LONG, NOTHING, A, B, F, G, H, M, N, Refused, counts, written
+from reader import CHOICE, CHOICES, FITTING, FITTINGS, LONG, NOTHING, A, B, F, G, H, M, N, Refused, counts, step, written
 from rules import number, of
 
 MARK = {1: 0xA5, 4: 0xA5A5A5A5, 8: 0xA5A5A5A5A5A5A5A5}
@@ -193,7 +193,7 @@ class Beside:
     # The calls on a stated file, with arguments of every sort, each with each
 
     def faults(self, *found):
-        """Counts the calls with two faults or more: only the one with the lowest number is told."""
+        """Counts the calls with two faults or more: only the one with the lowest number is told, and of two wrong goals the first."""
         self.tally["two faults"] += sum(found) > 1
 
     def choice_in_full(self, file):
@@ -224,7 +224,8 @@ class Beside:
 
     def fitting_in_full(self, file):
         """Every layer, and the plan in 0 words up to one more than the horizon. If there are few facts, every start and goal
-        as well: by these the layers tell what each step needs, gives and takes."""
+        as well, and every start with each step alone: by these the layers tell what each step needs, takes, and gives beyond what
+        it needs."""
         job = rules.read(file, (FITTING,))
         self.layers_in_full(file)
         for count in range(job.horizon + 2):
@@ -235,15 +236,21 @@ class Beside:
             for k in range(job.horizon + 1):
                 self.layer(other, "fact", k, 32)
                 self.layer(other, "round", k, 64)
+        for alone, start in product(range(len(job.steps)), range(2**job.facts)) if job.facts <= 4 else ():
+            steps = [each if a == alone else step([], [], []) for a, each in enumerate(job.steps)]
+            other = written(job._replace(start=of(start), steps=steps))
+            self.layer(other, "round", 1, 64)
+            self.layer(other, "fact", 1, 32)
 
     def refused(self, file):
-        """What is wrong with a file is told before what is wrong with the arguments."""
+        """What is wrong with a file is told before what is wrong with the arguments: a goal without a wish, and a buffer of one word,
+        are wrong for every file."""
         self.partition(file, 2)
         self.filter_pass(file, [0], FULL, 0)
         self.choose(file, [0], [0], FULL)
         self.layer(file, "fact", 4, 1)
         self.layer(file, "round", 4, 1)
-        self.tally["two faults"] += 5
+        self.tally["two faults"] += 4
 
     def names_in_full(self, file):
         for at in (*range(66), 2**32, 2**63, FULL):

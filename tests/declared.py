@@ -1,4 +1,4 @@
-"""What the crates declare, and whether the names of docs/TRACE.md are declared there and not only mentioned.
+"""What the crates declare, and whether the names of docs/TRACE.md and docs/ARCHITECTURE.md are declared there and not only mentioned.
 
 Everything is read below a root folder, so that a test can plant a fault in a copy.
 """
@@ -206,10 +206,16 @@ def drawn(root):
 
 
 def described(root):
-    """How many names docs/ARCHITECTURE.md gives in the tables of the crates: each is declared in that crate, in the way of its
-    row, or is a crate or a file."""
+    """How many names docs/ARCHITECTURE.md gives as definitions, theorems and functions in the tables of the crates: each is declared
+    in that crate, in the way of its row, or is a file, or a crate that this one needs."""
     text, found = (root / "docs" / "ARCHITECTURE.md").read_text(), []
-    elsewhere = lambda name: name in needs((root / "crates.txt").read_text()) or "/" in name or name.endswith((".rt", ".antt"))
+    direct = needs((root / "crates.txt").read_text())
+
+    def elsewhere(crate, name):
+        if "/" in name:
+            return (root / name).is_file()
+        return any((root / "crates" / crate).rglob(name)) if name.endswith((".rt", ".antt")) else name in direct[crate]
+
     for crate, table in re.findall(r"^### `(\w+)`\n\n((?:\|.*\n)+)", text, re.M):
         there = names(root, crate)
         by_row = {
@@ -219,7 +225,7 @@ def described(root):
         }
         for line in table.splitlines():
             row, _, cell = line.strip("| ").partition(" | ")
-            found += [(by_row[row](name) or elsewhere(name), f"{name} ({row} of {crate})") for name in quoted(cell) if row in by_row]
+            found += [(by_row[row](name) or elsewhere(crate, name), f"{name} ({row} of {crate})") for name in quoted(cell) if row in by_row]
     demand(found, "docs/ARCHITECTURE.md describes no crate")
     absent = [label for there, label in found if not there]
     demand(not absent, "docs/ARCHITECTURE.md names what a crate does not declare: " + ", ".join(absent))

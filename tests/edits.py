@@ -54,7 +54,7 @@ def rows(table):
 def row_of(words, table):
     """The one row of the proved table that these words are."""
     found = [row for row in rows(table) if row == words]
-    demand(len(found) == 1 and table.count(words) == 1, f"'{words}' stands {table.count(words)} times in {TABLE}, and is {len(found)} of its rows")
+    demand(len(found) == 1 and table.count(words) == 1, f"'{words}' is {table.count(words)} times in {TABLE}, and is {len(found)} of its rows")
     return found[0]
 
 
@@ -116,7 +116,7 @@ def refused_for(log):
         demand(NOTE in log, "its log names no fact that fails")
         return
     place, words = first.groups()
-    demand("/proofs/" in place, f"its first error stands in no proof: {place}: {words[:300]}")
+    demand("/proofs/" in place, f"its first error is in no proof: {place}: {words[:300]}")
     demand(FACTS.search(words), f"its first error is no failed fact: {words[:300]}")
 
 

@@ -45,7 +45,7 @@ static void clear(void)
     out[0] = out[1] = NINE * 111;
 }
 
-/* What each buffer has to hold: so many elements from the front, then zeros up to an index, and nines from there on. */
+/* What each buffer has to hold: this number of elements from the front, then zeros up to an index, and nines from there on. */
 static int holds(const uint64_t *front, int count, int zeros, uint64_t element, int i)
 {
     return element == (i < count ? front[i] : i < zeros ? 0 : NINE);

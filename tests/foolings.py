@@ -54,7 +54,7 @@ def found(label, words, function, *arguments):
 def changed(text, old, new):
     """A text with these words changed, which are in it once."""
     if text.count(old) != 1:
-        raise ValueError(f"'{old}' stands {text.count(old)} times in what is to be changed")
+        raise ValueError(f"'{old}' is {text.count(old)} times in what is to be changed")
     return text.replace(old, new)
 
 
@@ -175,7 +175,7 @@ BAD_LOGS = {
     "a need that is gone": ("proofs/f/Proof.antt:12:13: error: `f-spec`: the module has no `Need-returns-2`", "no failed fact"),
     "a field that is gone": ("proofs/f/Proof.antt:12:13: error: `returns`: record `f.Lts.Then1` has no field `args`", "no failed fact"),
     "a definition that is gone": ("proofs/Laws.antt:3:1: error: module `specs.Sets` has no `lowest` that can be named from here", "no failed fact"),
-    "a fact that stands behind": ("proofs/f/Proof.antt:12:13: error: `returns`: `taken` is not in scope\nnote: `search`: no proof of `a ≡ b`", "no failed fact"),
+    "a fact that comes after": ("proofs/f/Proof.antt:12:13: error: `returns`: `taken` is not in scope\nnote: `search`: no proof of `a ≡ b`", "no failed fact"),
     "a proof that cannot be read": ("proofs/f/Proof.antt:12:13: error: expected a term, found `)`", "no failed fact"),
     "a definition that has no type": ("specs/Rules.antt:3:1: error: `rule`: as printed, the two types first differ where one has `ℕ`", "in no proof"),
     "nothing": ("", "names no fact"),
@@ -187,7 +187,7 @@ def logs():
     scope = AT + BAD_LOGS["a name that is not in scope"][0]
     for log in GOOD_LOGS:
         passes(log, edits.refused_for, f"{AT}{log}\n{scope}\nlogic=not-proved\n")
-        found(f"behind another error: {log}", "no failed fact", edits.refused_for, f"{scope}\n{AT}{log}\nlogic=not-proved\n")
+        found(f"after another error: {log}", "no failed fact", edits.refused_for, f"{scope}\n{AT}{log}\nlogic=not-proved\n")
     for label, (log, words) in BAD_LOGS.items():
         found(f"a log of {label}", words, edits.refused_for, f"{AT}{log}\nlogic=not-proved\n")
     note = f"note: {AT}src/lib.rt:1:2: it is not proved that the index is in range\n"
@@ -209,7 +209,7 @@ GOOD_EDITS = {
 }  # fmt: skip
 BAD_EDITS = {
     "an edit of a proof": ("sets", CHANGE.replace("src/lib.rt", "proofs/f/Proof.antt") + INPUT, "not code in src/"),
-    "an edit of a proof behind one of code": ("sets", CHANGE + "file: proofs/Bits.antt\nold: a\nnew: b\n" + INPUT, "not code in src/"),
+    "an edit of a proof after one of code": ("sets", CHANGE + "file: proofs/Bits.antt\nold: a\nnew: b\n" + INPUT, "not code in src/"),
     "an edit by a way round": ("sets", CHANGE.replace("src/lib.rt", "src/../proofs/Bits.antt") + INPUT, "not code in src/"),
     "no input": ("sets", CHANGE, "lacks a line 'input'"),
     "an empty input": ("sets", CHANGE + "input:\n", "says nothing"),
@@ -219,8 +219,8 @@ BAD_EDITS = {
     "a line of no kind": ("sets", CHANGE + "inputs: the file F\n", "begins with none of"),
     "no row": ("calls", CHANGE + INPUT, "lacks a line 'row'"),
     "an empty row": ("calls", CHANGE + "row:\n", "says nothing"),
-    "a row that is not there": ("calls", f"{CHANGE}row: {ROW.replace('answered 2', 'answered 3')}\n", "stands 0 times"),
-    "a row that is not there, of another crate": ("planner", f"{CHANGE}{INPUT}row: {ROW.replace('answered 2', 'answered 3')}\n", "stands 0 times"),
+    "a row that is not there": ("calls", f"{CHANGE}row: {ROW.replace('answered 2', 'answered 3')}\n", "is 0 times"),
+    "a row that is not there, of another crate": ("planner", f"{CHANGE}{INPUT}row: {ROW.replace('answered 2', 'answered 3')}\n", "is 0 times"),
     "words of many rows": ("capi", CHANGE + "row: (answered 2)\n", "and is 0 of its rows"),
     "words of a row without its answer": ("capi", CHANGE + "row: says (planOf fileF (nines 3))\n", "and is 0 of its rows"),
     "another row than it changes": ("examples", f"file: specs/Table.antt\nold: (answered 6)\nnew: (answered 7)\nrow: {ROW}\n", "another row"),
@@ -250,7 +250,7 @@ def edit_files(folder):
 
 def with_promises(folder):
     """A copy of all that docs/TRACE.md names, with a file Promises.antt that imports all theorems of the demands."""
-    for part in ("crates", "docs", "host", "include", "reference", "tests"):
+    for part in ("crates", "docs", "host", "include", "reference", "tests", "tools"):
         shutil.copytree(HERE / part, folder / part, ignore=shutil.ignore_patterns("__pycache__"))
     stated = [name for name, public in declared.signatures((folder / declared.DEMANDS).read_text()) if public]
     lists = "".join(f"use {declared.MODULE}.{{{', '.join(part)}}}\n" for part in (stated[:1], stated[1:5], stated[5:]))
@@ -337,6 +337,9 @@ def architecture(folder):
         ("a definition that the crate lacks", "`sameName`, `lowestNamed`;", "`sameName`, `lowestNamed`, `contribution`;", "contribution (main definitions of names)"),
         ("a theorem that is none", "`list-same`, `agree`", "`list-same`, `sameName`", "sameName (main theorems of names)"),
         ("a function of another crate", "`same_name`, `search`;", "`same_name`, `search`, `first_bad`;", "first_bad (main functions of names)"),
+        ("a crate for a function", "`same_name`, `search`;", "`filter`, `search`;", "filter (main functions of names)"),
+        ("a file that is not there", "in `likeness.rt`", "in `likenes.rt`", "likenes.rt (main functions of names)"),
+        ("a tool that is not there", "`tools/library` builds", "`tools/libraries` builds", "tools/libraries (main functions of capi)"),
     ):
         with planted(page, old, new):
             found(label, words, declared.described, folder)

@@ -133,7 +133,7 @@ def assumptions_as_stated():
 
 
 def trace():
-    """Every name in docs/TRACE.md is declared in crates/ or is a file of the repository, and every must-fail edit stands in docs/TRACE.md."""
+    """Every name in docs/TRACE.md is declared in crates/ or is a file of the repository, and every must-fail edit is in docs/TRACE.md."""
     return declared.traced(ROOT)
 
 
@@ -145,7 +145,7 @@ def promises():
 def documents():
     """docs/ARCHITECTURE.md has the graph of crates.txt as a picture, a table or a row for every crate, names that it declares, and a row for every check; and every relative link of the documents leads to a file."""
     text = (ROOT / "docs" / "ARCHITECTURE.md").read_text()
-    absent = [name for name in crates() if f"\n### `{name}`\n" not in text and f"\n| `{name}` | " not in text]
+    absent = [name for name in crates() if (f"\n| `{name}` | " if name.startswith("show_") else f"\n### `{name}`\n") not in text]
     absent += [name for name in least.CHECKS if f"\n| `{name}` | " not in text]
     demand(not absent, f"docs/ARCHITECTURE.md lacks {', '.join(absent)}")
     seen = len(crates()) + len(least.CHECKS) + declared.drawn(ROOT) + declared.described(ROOT)
@@ -491,7 +491,7 @@ def tool():
 
 
 def first_command():
-    """The README's first command, run as it stands there, tells a kitchen and a plan."""
+    """The README's first command, run as it is written there, tells a kitchen and a plan."""
     command = re.search(r"^```\n(.*)\n```$", (ROOT / "README.md").read_text(), re.M)[1]
     printed = run(["sh", "-c", command])
     told = [line for line in ("A kitchen of 7 articles ", "A plan of 8 rounds; ") if f"\n{line}" in printed]
@@ -539,7 +539,7 @@ def foolings():
 
 
 def runner():
-    """tests/runner.py: ./test and ./bench touch nothing where they are asked wrongly or for help, and what fails is counted."""
+    """tests/runner.py: ./test and ./bench touch nothing if they are asked wrongly or for help, and what fails is counted."""
     return checks_of("runner")
 
 

@@ -302,7 +302,7 @@ def whole_page(label, title, text, answer, found, lines, source):
     if not len(root):
         return
     equal((root.findtext("head/title"), root.findtext("body/main/h1")), (title, title), f"{label}: the title")
-    equal(next(root.iter("p")).text, told(text, answer)[0], f"{label}: the answer stands first")
+    equal(next(root.iter("p")).text, told(text, answer)[0], f"{label}: the answer comes first")
     lines = {evened(line) for line in lines}
     equal(lines - lines_of(root), set(), f"{label}: lines of the answer or the advice that are missing")
     kind = choice_page if text.job.kind is kitchen.CHOICE else fitting_page

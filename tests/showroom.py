@@ -295,7 +295,7 @@ def parts(output, paths):
     """What is told of each of several texts, each below its path."""
     found, rest = [], output
     for path, following in zip(paths, [*paths[1:], None]):
-        check(rest.startswith(f"{path}\n"), f"{path} stands above its answer:\n{rest}")
+        check(rest.startswith(f"{path}\n"), f"{path} is above its answer:\n{rest}")
         rest = rest.removeprefix(f"{path}\n")
         part, mark, rest = rest.partition(f"\n\n{following}\n") if following else (rest, "", "")
         found.append(part + "\n" if mark else part)

@@ -214,11 +214,11 @@ FAULTY = [
     ("choice\norder: a\narticle\nwishes: b\n", [(1, '"wishes:" is missing')]),
     ("fitting\nfacts: a\nstart: a\ngoal: a\n", [(1, '"horizon:" is missing')]),
     ("fitting\nhorizon: 1\nfacts: a\n", [(1, '"start:" is missing'), (1, '"goal:" is missing')]),
-    (CHOICE + "order: b\n", [(4, '"order:" stands in line 3 already')]),
-    (CHOICE + "wishes: b\n", [(4, '"wishes:" stands in line 2 already')]),
-    (CHOICE + "article X\nwishes: a\nwishes: b\n", [(6, '"wishes:" stands in line 5 already')]),
-    (CHOICE + "article X\norder: a\n", [(5, "above the first article"), (5, "stands in line 3 already")]),
-    ("choice\nwishes: a\narticle X\norder: a\n", [(4, '"order:" stands too late')]),
+    (CHOICE + "order: b\n", [(4, '"order:" is in line 3 already')]),
+    (CHOICE + "wishes: b\n", [(4, '"wishes:" is in line 2 already')]),
+    (CHOICE + "article X\nwishes: a\nwishes: b\n", [(6, '"wishes:" is in line 5 already')]),
+    (CHOICE + "article X\norder: a\n", [(5, "above the first article"), (5, "is in line 3 already")]),
+    ("choice\nwishes: a\narticle X\norder: a\n", [(4, '"order:" comes too late')]),
     (CHOICE + "clashes: X,\n  Y\n", [(4, '"clashes:" has no place here')]),
     (FITTING + "needs: a\n", [(6, '"needs:" has no place here')]),
     (FITTING.replace("3", "17"), [(2, "expected a number from 0 to 16")]),
@@ -235,8 +235,8 @@ FAULTY = [
     ("choice\nwishes:\norder: a\n", [(3, "expected the name of one, or none, as there is no wish")]),
     (CHOICE + "article X\nwishes: #2\n", [(5, "there is no wish #2; expected #0 to #1")]),
     (CHOICE + "article X\nwishes: #" + "1" * 5000, [(5, "there is no wish #111")]),
-    (CHOICE + "article X\nwishes: a, b, a\n", [(5, '"a" stands twice in the list')]),
-    (CHOICE + "article X\nwishes: a, #0\n", [(5, "#0 stands twice in the list")]),
+    (CHOICE + "article X\nwishes: a, b, a\n", [(5, '"a" is in the list twice')]),
+    (CHOICE + "article X\nwishes: a, #0\n", [(5, "#0 is in the list twice")]),
     (CHOICE + "article X\nwishes: a,, b\n", [(5, "a name is missing in front of a comma")]),
     (CHOICE + "article X\nwishes: ,\n", [(5, "ends with a comma"), (5, "in front of a comma")]),
     (CHOICE + "article X\nwishes: a,\narticle Y\n", [(5, "the list ends with a comma; expected a further name, in this line or the next")]),
@@ -246,8 +246,8 @@ FAULTY = [
     ("choice\nwishes: a, #1\norder:\n", [(2, '#1 has a #; expected the name as "#1", with the marks')]),
     (CHOICE + "article X\nclashes: X\n", [(5, "clashes with itself")]),
     (CHOICE + "article X\nclashes: #0\n", [(5, "clashes with itself")]),
-    (CHOICE + "article X\nclashes: Y\narticle Y\n", [(5, '"Y" stands below this article')]),
-    (CHOICE + "article X\nclashes: #1\narticle Y\n", [(5, "#1 stands below this article")]),
+    (CHOICE + "article X\nclashes: Y\narticle Y\n", [(5, '"Y" is below this article')]),
+    (CHOICE + "article X\nclashes: #1\narticle Y\n", [(5, "#1 is below this article")]),
     (CHOICE + "article X\nclashes: Y\n", [(5, 'no article is named "Y"')]),
     (CHOICE + "article X\narticle\nclashes: #2\n", [(6, "there is no article #2; expected #0")]),
     (CHOICE + "article X\narticle X\narticle\nclashes: X\n", [(7, '2 articles are named "X"; expected a number, #0 or #1')]),
@@ -336,8 +336,8 @@ def comments():
     """Only lines of their own are comments, and the help says so; a # elsewhere is a fault, or quoted."""
     for line, text in NO_COMMENT:
         faults = faults_of(text)
-        equal([number for number, _ in faults], [line], f"a comment behind something: {text!r} {faults}")
-        check(faults[0][1].endswith("; a comment stands in a line of its own"), f"{text!r}: {faults}")
+        equal([number for number, _ in faults], [line], f"a comment after something: {text!r} {faults}")
+        check(faults[0][1].endswith("; a comment has a line of its own"), f"{text!r}: {faults}")
     for name in ("Hinge # 12", "# 12", "#12", "C#", "#"):
         text = f'choice\nwishes: "{name}"\norder: "{name}"\narticle "{name}"\nwishes: "{name}"\narticle\nclashes: "{name}"\n'
         equal(kitchen.read(written(text)).records[0].name, name.encode(), f"{name} as a name")
@@ -347,8 +347,8 @@ def comments():
     for line in ("#", "# x", "#x", "  # x", "##", '#"', "\u00a0#", "\u3000 # x", "#,"):
         equal(written(f"{line}\n" + KITCHEN.replace("\n", f"\n{line}\n")), written(KITCHEN), f"the comment {line!r}")
     check(faults_of("#1 rounds\n" + KITCHEN), "a line that begins with # and a digit is no comment")
-    said = "A comment is a line of its own that begins with `#` and no digit behind it."
-    check(said in guide.GUIDE and "A name with `#`" in guide.GUIDE, "the help says where comments stand")
+    said = "A comment is a line of its own that begins with `#` and has no digit after it."
+    check(said in guide.GUIDE and "A name with `#`" in guide.GUIDE, "the help says where comments are")
 
 
 def odd_texts(folder):
@@ -472,7 +472,7 @@ WARNED = [
     (GOOD.replace("wishes: a\n", "wishes: b\n"), [(3, 'no article carries the wish "a" of the order')]),
     (CHOICE, [(3, 'no article carries the wish "a" of the order')]),
     ("choice\nwishes: a\norder:\n", []),
-    (GOOD + "article X\nwishes: b\n", [(8, 'two articles are named "X"; the first stands in line 4')]),
+    (GOOD + "article X\nwishes: b\n", [(8, 'two articles are named "X"; the first is in line 4')]),
     (GOOD + "article X\nwishes: b\narticle X\nwishes: a\n", [(8, "in line 4"), (10, "in line 4")]),
     (GOOD + "article\nwishes: b\narticle\nwishes: b\n", []),
     (GOOD + "article Z\n", [(8, "the article carries no wish")]),
@@ -480,7 +480,7 @@ WARNED = [
     (READY.replace("gives: b", ""), [(5, 'nothing gives the fact "b" of the goal')]),
     (READY.replace("goal: b", "goal: a, b").replace("start: a", "start:"), [(5, '"a" of the goal'), (6, 'the step needs "a"')]),
     (READY + "step Y\nneeds: b\n", []),
-    (READY + "step X\nneeds: b\n", [(9, 'two steps are named "X"; the first stands in line 6')]),
+    (READY + "step X\nneeds: b\n", [(9, 'two steps are named "X"; the first is in line 6')]),
     (READY.replace("a, b", "a, b, c") + "step Y\nneeds: c\n", [(9, 'the step needs "c", which nothing gives')]),
     (READY.replace("a, b", "a, b, c") + "step Y\nneeds: c, b\ngives: c\n", []),
 ]
@@ -521,8 +521,8 @@ def orders(folder):
         ("#2", "there is no wish #2; expected #0 to #1"),
         ("a, b,", "the list ends with a comma; expected a further name\n"),
         (",", "a name is missing in front of a comma"),
-        ("a, #0", "#0 stands twice in the list"),
-        ("a # x", "a comment stands in a line of its own"),
+        ("a, #0", "#0 is in the list twice"),
+        ("a # x", "a comment has a line of its own"),
         ("a\nb", 'expected the name without it, or as "a\\x0Ab"'),
     ):
         status, output, errors = quick("write", path, "--order", order, "-o", folder / "order.job")
@@ -1229,8 +1229,8 @@ def usage(folder):
         check((status, output) == (2, b"") and phrase in errors, f"{arguments}: status {status}, {output!r}, {errors}")
         check(errors.startswith("tools/job: ") and "Traceback" not in errors, f"{arguments}: {errors}")
     (folder / "-x.txt").write_text(KITCHEN)
-    equal(run("write", "--", "-x.txt", cwd=folder), (0, written(KITCHEN), ""), "a path that begins with -, behind --")
-    equal(run("write", "./-x.txt", "-o-x.job", cwd=folder), (0, b"", ""), "a path that begins with -, behind ./")
+    equal(run("write", "--", "-x.txt", cwd=folder), (0, written(KITCHEN), ""), "a path that begins with -, after --")
+    equal(run("write", "./-x.txt", "-o-x.job", cwd=folder), (0, b"", ""), "a path that begins with -, after ./")
     equal((folder / "-x.job").read_bytes(), written(KITCHEN), "-o without a blank")
     check(TOOL.stat().st_mode & 0o111, "tools/job can be executed")
 
@@ -1262,7 +1262,7 @@ def helpful(folder):
         "32 steps, 32 facts, a horizon of 16 rounds",
         "32 bytes of an article or step; a letter such as ä has 2",
         f"a file {commands.LARGEST:,} bytes, be it a text or a job file",
-        "Of several kitchens the one with the smallest number comes, so what stands first in the text is preferred.",
+        "Of several kitchens the one with the smallest number comes, so what comes first in the text is preferred.",
         "0 there is a kitchen, there is a plan; or what was asked for is done",
         "1 a text or file is at fault, or there is no answer",
         "2 the tool was called in another way than it can be",

@@ -80,7 +80,7 @@ def put(output, target, source):
         return emit(output)
     with naming(shown(target)):
         if os.path.exists(target) and os.path.samestat(os.stat(0 if source == STANDARD else source), os.stat(target)):
-            raise Trouble(f"{shown(target)} is the text itself; expected another file behind -o")
+            raise Trouble(f"{shown(target)} is the text itself; expected another file after -o")
         with open(target, "wb") as out:
             out.write(output)
 
@@ -301,7 +301,7 @@ def parser():
     takes_target(part, "the job file")
     for name, action, sentence in (("read", read, "a text from a job file"), ("show", show, "a job file as a table")):
         command(name, action, sentence).add_argument("file", metavar="FILE", help="the job file, - for standard input")
-    part = command("explain", explain, "what a refusal means, and what stands at its place")
+    part = command("explain", explain, "what a refusal means, and what is at its place")
     part.add_argument("number", metavar="NUMBER", help="the number of the reason")
     part.add_argument("place", metavar="PLACE", nargs="?", help="its place")
     part.add_argument("file", metavar="FILE", nargs="?", help="the job file that was refused, - for standard input")

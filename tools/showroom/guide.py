@@ -48,7 +48,7 @@ why. A text for a fitting:
 jobs/ has longer ones.
 
 Which kitchen comes:
-  Of several kitchens the one with the smallest number comes, so what stands first in the text is preferred.
+  Of several kitchens the one with the smallest number comes, so what comes first in the text is preferred.
 
 How a text is written:
 - The first line is `choice` or `fitting`. A choice goes on with `wishes:` and `order:`, then has its articles; a
@@ -58,13 +58,13 @@ How a text is written:
   indented.
 - Wishes, facts, articles and steps are numbered from 0, in the order of the text. `wishes:` and `facts:` of the head
   give names to wishes and facts; the job file has only their count.
-- Behind a colon stands a list: names, or numbers as `#3`, with commas between them. An empty list is the empty set.
+- After a colon comes a list: names, or numbers as `#3`, with commas between them. An empty list is the empty set.
   A list that ends with a comma goes on in the next line.
 - An article names those above it that it clashes with: a clash is written once, at the later of the two.
 - A name with `#`, a quotation mark, a character that does not print, or a blank at its end is quoted, and in a list
   also one with a comma: "Oven, 60 cm". Inside, \\" and \\\\ stand for the two characters themselves, and \\xE4 for the
   byte E4. A letter with a mark may be typed as one character or as two: a list finds the name either way.
-- A comment is a line of its own that begins with `#` and no digit behind it.
+- A comment is a line of its own that begins with `#` and has no digit after it.
 
 With --json each text has one line:
   text, kind, and answer: "kitchen", "no such kitchen", "plan", "no such plan" or "error"; a kitchen has articles, each

@@ -26,7 +26,7 @@ FIELD = re.compile(rf"({'|'.join(word for word in WORDS if word not in OPENINGS)
 OPENING = re.compile(rf"({'|'.join(OPENINGS)})(?:{BLANK}+(.*))?")
 # One of the words with capitals, or with or without a colon if it should be the other way.
 ALMOST = re.compile(rf"({'|'.join(WORDS)})(?:{BLANK}*:|{BLANK}|$){BLANK}*(.*)", re.IGNORECASE)
-OWN_LINE = "a comment stands in a line of its own"
+OWN_LINE = "a comment has a line of its own"
 UNSEEN = "the line has a character that does not print"
 
 # What a text states: the job, the names of its wishes or facts, and warnings, pairs of a line number and a message.
@@ -180,10 +180,10 @@ class Draft:
             fields = {}
             self.fault(line, f'"{word}:" has no place here; {self.expected()}')
         elif self.entries:
-            self.fault(line, f'"{word}:" stands too late; expected above the first {self.kind.record}')
+            self.fault(line, f'"{word}:" comes too late; expected above the first {self.kind.record}')
         field = Field(line, [])
         if word in fields:
-            self.fault(line, f'"{word}:" stands in line {fields[word].line} already; expected once')
+            self.fault(line, f'"{word}:" is in line {fields[word].line} already; expected once')
         else:
             fields[word] = field
         if text:
@@ -288,12 +288,12 @@ class Draft:
                 continue
             shown = brief(text if text[0] in '"#' else f'"{text}"')
             if number in found:
-                self.fault(line, f"{shown} stands twice in the list; expected once")
+                self.fault(line, f"{shown} is in the list twice; expected once")
             if number == own:
                 self.fault(line, f"the {what} clashes with itself; expected {self.kind.records} above it")
             elif number > bound:
                 above = f"expected {self.kind.records} above it: write the clash there"
-                self.fault(line, f"{shown} stands below this {what}; {above}")
+                self.fault(line, f"{shown} is below this {what}; {above}")
             found.add(number)
         return found
 
@@ -332,7 +332,7 @@ class Draft:
         for numbers in entries.numbers.values():
             for number in numbers[1:]:
                 entry, first = self.entries[number], self.entries[numbers[0]].line
-                yield entry.line, f"two {self.kind.records} are named {cited(entry.name)}; the first stands in line {first}"
+                yield entry.line, f"two {self.kind.records} are named {cited(entry.name)}; the first is in line {first}"
         yield from self.unfulfilled(job, names) if self.kind is CHOICE else self.unreached(job, names)
 
     def unfulfilled(self, job, names):
