@@ -72,17 +72,17 @@
  *
  * Threads. Nothing here allocates, blocks, or keeps a pointer; calls may run in several threads at once. A thread that
  * plans MUST have a stack of 1 MB, within which our tests run the planner; the largest call that we measured takes
- * 267,448 bytes. With 128 KB the sample jobs/fitting.txt crashes.
+ * 266,408 bytes. With 128 KB the sample jobs/fitting.txt crashes.
  *
  * Time. No call can be interrupted, and none has a limit of time. In our bench a choice takes some thousandths of a
- * millisecond, and a plan mostly some hundredths to some tenths of one; the hardest plans that we could find take about
- * a second, and one takes some 25 s. No bound is promised: both problems are hard. If you must not wait, plan in a
- * process of its own, which you can end.
+ * millisecond, and a plan mostly some hundredths to some tenths of one; the hardest plans in it take about a second, and
+ * one that is not in it takes the same search without proofs some 25 s. No bound is promised: both problems are hard.
+ * If you must not wait, plan in a process of its own, which you can end.
  */
 #ifndef KITCHEN_H
 #define KITCHEN_H
 
-/* Goes up whenever something below changes. kitchen_version() has the same of the library that was built. */
+/* Goes up whenever something below changes. kitchen_version() tells the number of the library that was built. */
 #define KITCHEN_VERSION 2
 
 #include <stddef.h>
