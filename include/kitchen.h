@@ -82,7 +82,8 @@
 #ifndef KITCHEN_H
 #define KITCHEN_H
 
-/* Goes up whenever something below changes. kitchen_version() tells the number of the library that was built. */
+/* Goes up whenever a declaration or a number below changes. kitchen_version() tells the number of the library that
+ * was built. */
 #define KITCHEN_VERSION 2
 
 #include <stddef.h>

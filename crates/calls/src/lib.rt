@@ -210,8 +210,8 @@ pub enum PlanAnswer {
     Refused(Refusal),
 }
 
-// The fewest rounds of a plan within the file's horizon; the rounds of such a plan are in the words
-// in front, in their order, each as a set of steps. Which of the shortest plans it is, is free.
+// The fewest rounds of a plan within the file's horizon; the words in front have the steps of such a
+// plan, a word for each round from the first on. Which of the shortest plans it is, is free.
 pub fn plan(file: &[u8], words: &mut [u32]) -> PlanAnswer
     ensures { λ r. ⌜ planTold r ≡ said (planOf (now (file .entry)) (now (words .entry))) ⌝ }
     ensures { λ r. ⌜ Buffer (readJob fittings (now (file .entry))) (now (words .entry)) (now (words .exit)) (planOf (now (file .entry)) (now (words .entry))) ⌝ }

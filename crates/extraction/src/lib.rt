@@ -1,4 +1,4 @@
-// Plan extraction over round layers, working back from the goal one round at a time.
+// Plan extraction over round layers: from the goal back to the start, round by round.
 ghost use mathlib.Core.Path.{_≡_};
 ghost use mathlib.Core.Bool.{_&&_};
 ghost use Prim.Native.Nat.{_/_, _^_, _≤_};
@@ -120,9 +120,9 @@ fn dropped(
 
 // Graphplan's backward extraction, with nogoods. `needs`, `gives` and `carriers` are the tables of the
 // vertices, `members` and `words` the vertices and mutex words of each round layer, `start` has the
-// facts at the start, `plan` gets the steps of each round, and `table` has the nogoods.
-// `k` is how many rounds are left, and `goal` has the facts that are to hold after them. If the box is
-// the whole, a goal that includes a nogood is refuted at once, and what is refuted is stored.
+// facts at the start, `plan` gets the steps of each round, and `table` has the nogoods. `k` is how many
+// rounds are left, and `goal` has the facts that are to hold after them. If a round is left and the box
+// is the whole, a goal that includes a nogood is refuted at once, and what is refuted is stored.
 //
 // The needs of a selection of round layer k for the goal are the goal of the round before. If they are
 // refuted there by facts c, every other selection either needs all of c and is refuted with it, or lacks

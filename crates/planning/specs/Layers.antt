@@ -72,7 +72,7 @@ factsOver w S R = record { members = givenBy w S R; words = mutexes w (givenBy w
 
 -- ---- all layers
 
--- fact layer 0 is the start, without mutexes; fact layer k holds what round layer k gives
+-- fact layer 0 is the start, without mutexes; each later one is made from the round layer with its number
 unfoldable pub factLayer : ℕ → Fitting → ℕ → Layer
 factLayer w F zero = record { members = F .start; words = listTo w (λ p. 0) }
 factLayer w F (suc k) = factsOver w (vertices w F) (roundOver w (vertices w F) (w + F .count) (factLayer w F k))
