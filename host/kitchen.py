@@ -23,7 +23,7 @@ import pathlib
 from collections import namedtuple
 
 # The number of the interface in include/kitchen.h. A library of another number is not used.
-VERSION = 2
+VERSION = 3
 
 # A kind of job: its first byte and word, its records and what sets are counted against, the limit of both counts, the
 # limit of the horizon if there is one, the bytes of a set, the sets of its head and those of a record.
@@ -272,6 +272,7 @@ def members_of(number):
 # ---- the proved calls
 
 FACT_WORDS, ROUND_WORDS = 32, 64  # the mutex words of a fact layer and of a round layer
+LONGEST_CHOICE = 3211  # bytes; no choice file that is in order has more
 LARGEST = 2**64 - 1
 
 
@@ -374,6 +375,30 @@ class Library:
             floor = number_of(answer.articles) + 1
             if floor > LARGEST:
                 return
+
+    # -- choice files with a change
+
+    def saved(self, name, file, *arguments):
+        """The new file, from a buffer that is long enough for every one."""
+        to = (ctypes.c_uint8 * LONGEST_CHOICE)()
+        length, _ = self.answered(name, file, *arguments, to)
+        return bytes(to)[:length]
+
+    def save_order(self, file, order):
+        """The file with this order, a set of wishes."""
+        return self.saved("save_order", file, word(number_of(order)))
+
+    def save_wishes(self, file, article, wishes):
+        """The file in which that article, by its number, carries these wishes."""
+        return self.saved("save_wishes", file, word(article), word(number_of(wishes)))
+
+    def save_clashes(self, file, article, clashes):
+        """The file in which that article names these as its clashes: lower articles only, as in every file."""
+        return self.saved("save_clashes", file, word(article), word(number_of(clashes)))
+
+    def save_name(self, file, article, name):
+        """The file in which that article has this name; an empty one is none."""
+        return self.saved("save_name", file, word(article), named(name))
 
     # -- fitting files
 

@@ -6,7 +6,7 @@
  *     tools/library
  *
  * which makes target/lib/libkitchen.a, an archive to link, and target/lib/libkitchen.so, a shared library for languages
- * that load one; its soname is libkitchen.so.2. `make install` puts both and this header where your system has such
+ * that load one; its soname is libkitchen.so.3. `make install` puts both and this header where your system has such
  * things, and in the folder that `make dist` packs both are in lib/.
  *
  * A program in C that chooses, from a job file on standard input, is built by
@@ -56,7 +56,7 @@
  *
  * host/ has longer examples, with names and plans.
  *
- * Answers. Each of the nine calls returns 0 for an answer, and otherwise the number of the reason why it was turned
+ * Answers. Each of the thirteen calls returns 0 for an answer, and otherwise the number of the reason why it was turned
  * down. 14, 15 and 16 are answers as well, in the form of a refusal: the input is in order, and there is no such
  * selection, plan or name. All others say that the input is at fault; `tools/job explain` puts them into words. A call
  * always writes both words of `out`: the values of the answer, named beside each function, or the place of the refusal
@@ -64,15 +64,16 @@
  * of it.
  *
  * Arguments. A slice is a pointer and a length, in elements. The pointer of an empty slice may be null. Buffers must
- * not overlap each other, the file or `out`. A refusal writes to no buffer; elements after those that an answer fills
- * keep what they held. Sets are numbers by their bits: bit i is 1 if i is a member. `groups` must have at least a byte
- * for each article of the file; KITCHEN_ARTICLES bytes always do, and more may be lent. No file that is in order is
- * longer than KITCHEN_LONGEST bytes. A program that reads one byte more of a file needs no more of it: a longer file is
- * refused, and by these bytes in the same way.
+ * not overlap each other, the file, a name or `out`; so a file is saved into a buffer of its own. A refusal writes to no
+ * buffer; elements after those that an answer fills keep what they held. Sets are numbers by their bits: bit i is 1 if i
+ * is a member. `groups` must have at least a byte for each article of the file; KITCHEN_ARTICLES bytes always do, and
+ * more may be lent. No file that is in order is longer than KITCHEN_LONGEST bytes. A program that reads one byte more of
+ * a file needs no more of it: a longer file is refused, and by these bytes in the same way.
  *
  * Threads. Nothing here allocates, blocks, or keeps a pointer; calls may run in several threads at once. A thread that
  * plans MUST have a stack of 1 MB, within which our tests run the planner; the largest call that we measured takes
- * 266,408 bytes. With 128 KB the sample jobs/fitting.txt crashes.
+ * 266,408 bytes. With 128 KB the sample jobs/fitting.txt crashes. Of the other calls those that save take the most stack,
+ * 31,512 bytes, as measured on the longest choice file.
  *
  * Time. No call can be interrupted, and none has a limit of time. In our bench a choice takes some thousandths of a
  * millisecond, and a plan mostly some hundredths to some tenths of one; the hardest plans in it take about a second, and
@@ -84,7 +85,7 @@
 
 /* Goes up whenever a declaration or a number below changes. kitchen_version() tells the number of the library that
  * was built. */
-#define KITCHEN_VERSION 2
+#define KITCHEN_VERSION 3
 
 #include <stddef.h>
 #include <stdint.h>
@@ -104,7 +105,7 @@ enum {
     KITCHEN_ABSENT_MEMBER = 6,    /* a set has a member that the file lacks, or a clash is not with a lower article */
     KITCHEN_LONG_NAME = 7,        /* a name is longer than 32 bytes */
     KITCHEN_TRAILING_BYTES = 8,   /* something follows the last record */
-    KITCHEN_ABSENT_LAYER = 9,     /* a layer number is out of range */
+    KITCHEN_OUT_OF_RANGE = 9,     /* a layer number is out of range, or there is no such article to change */
     KITCHEN_SHORT_BUFFER = 10,    /* a lent buffer is too short */
     KITCHEN_FALSE_PARTITION = 11, /* a group byte is not below n, or articles that do not clash are in one group */
     KITCHEN_ABSENT_ARTICLE = 12,  /* the live set has an article that the file lacks */
@@ -114,6 +115,7 @@ enum {
     KITCHEN_NO_PLAN = 15,         /* there is no plan whose count of rounds is the horizon or less */
     KITCHEN_NO_NAME = 16          /* that name belongs to no article and to no step */
 };
+#define KITCHEN_ABSENT_LAYER KITCHEN_OUT_OF_RANGE /* its name up to version 2 */
 
 /* The limits of files and buffers. */
 enum {
@@ -176,6 +178,40 @@ uint32_t kitchen_find(const uint8_t *file, size_t file_len, const uint8_t *name,
  * out: 1 if they are and 0 if not, 0 */
 uint32_t kitchen_compare(const uint8_t *first, size_t first_len, const uint8_t *second, size_t second_len,
                          uint64_t out[2]);
+
+/* Saves a choice file with another order, which may be 0: the new file is written to the front of `to`, and all else in
+ * it is as in the old file. Needs as many bytes as the new file has; KITCHEN_LONGEST_CHOICE bytes always do. 10 does not
+ * tell how many were needed:
+ *
+ *     uint8_t to[KITCHEN_LONGEST_CHOICE];
+ *     if (kitchen_save_order(file, len, order, to, sizeof to, out) == 0)
+ *         fwrite(to, 1, (size_t)out[0], saved);
+ *
+ * All four calls that save test the old file, then for 9, then the new file, then for 10. So 6 and 7 may be faults of
+ * the old file, or of what is to be saved: if kitchen_partition takes the old file, they are the latter, and the place
+ * counts the bytes of the new file. For an order that is 6 at 3.
+ * out: the new file's length, 0 */
+uint32_t kitchen_save_order(const uint8_t *file, size_t file_len, uint64_t order, uint8_t *to, size_t to_len,
+                            uint64_t out[2]);
+
+/* The same with other wishes of an article, by its number; 0 leaves the field out. 9 is "no such article". Needs as
+ * many bytes as the new file has.
+ * out: the new file's length, 0 */
+uint32_t kitchen_save_wishes(const uint8_t *file, size_t file_len, uint64_t article, uint64_t wishes, uint8_t *to,
+                             size_t to_len, uint64_t out[2]);
+
+/* The same with other clashes of an article; 0 leaves the field out. They are with lower articles only: to change one
+ * with a higher article, change the clashes of that one. 9 is "no such article". Needs as many bytes as the new file
+ * has.
+ * out: the new file's length, 0 */
+uint32_t kitchen_save_clashes(const uint8_t *file, size_t file_len, uint64_t article, uint64_t clashes, uint8_t *to,
+                              size_t to_len, uint64_t out[2]);
+
+/* The same with another name of an article; a name of no bytes leaves the field out. 9 is "no such article". A name of
+ * any length may be given; one of over KITCHEN_NAME_BYTES bytes is 7. Needs as many bytes as the new file has.
+ * out: the new file's length, 0 */
+uint32_t kitchen_save_name(const uint8_t *file, size_t file_len, uint64_t article, const uint8_t *name, size_t name_len,
+                           uint8_t *to, size_t to_len, uint64_t out[2]);
 
 #ifdef __cplusplus
 }

@@ -1,28 +1,29 @@
 #!/usr/bin/env python3
-"""Runs the second program beside ours: all nine calls, with their buffers, through the C interface.
+"""Runs the second program beside ours: all thirteen calls, with their buffers, through the C interface.
 
     beside.py LIBRARY [--fault N]
 
 It takes the files that are stated one by one, the examples of docs/RULES.md among them, with arguments of every sort; then all
 small files of a sort, drawn ones, wide ones, at the edge of the words, and damaged ones: cut at every place, with single bytes
-changed, lengthened, over their limits, with forbidden bits; and some whose plan is long looked for. The same files come in
-every run. A difference is printed, and ends it with status 1; otherwise it prints how much was compared, and what of it
-mattered. --fault makes the second program err on purpose (FAULTS in rules.py): then a difference has to be found.
+changed, lengthened, over their limits, with forbidden bits; and some whose plan is long looked for. What is saved is saved once
+more, and back. The same files come in every run. A difference is printed, and ends it with status 1; otherwise it prints how
+much was compared, and what of it mattered. --fault makes the second program err on purpose (FAULTS in rules.py): then a
+difference has to be found.
 """
 
 import argparse
 import random
 import sys
 from collections import Counter
-from itertools import product
+from itertools import cycle, product
 
 import rules
-from drawn import damaged, drawn_choice, drawn_fitting, drawn_name, full_fitting, over_limits
+from drawn import damaged, drawn_choice, drawn_fitting, drawn_name, full_choice, full_fitting, over_limits
 from drawn import small_choices, small_fittings, walk, wide_choice
 from library import Library, slices
 from long import LONG as LONG_SEARCHES
 from reader import CHOICE, CHOICES, FITTING, FITTINGS, LONG, NOTHING, A, B, F, G, H, M, N, Refused, counts, step, written
-from rules import number, of
+from rules import FIELDS, Change, number, of
 
 MARK = {1: 0xA5, 4: 0xA5A5A5A5, 8: 0xA5A5A5A5A5A5A5A5}
 FULL = 2**64 - 1
@@ -30,6 +31,13 @@ FULL = 2**64 - 1
 # What is asked of the stated files. Names and goals that some of them have, and such that none has.
 NAMES = [b"", b"a", b"b", b"x", b"yz", b"cut", b"cu", b"cuts", LONG, LONG[:-1], LONG + b"y"]
 GOALS = [[], [0], [1], [3], [5], [7], [8], [1, 7], [4, 5, 1], [3, 7, 9, 0]]
+
+# What is saved: names of these lengths; a change of each sort, for files that need not be in order; and these in turn with one that
+# is wrong for every file: five, so that they do not keep step with the four ways in which a byte is damaged.
+LENGTHS = [0, 1, 31, 32, 33, 255, 256, 257, 288, 65536]
+PLAIN = [Change("order", None, set()), Change("wishes", 0, {0}), Change("clashes", 0, set()), Change("name", 0, b"a")]
+IN_TURN = [*PLAIN, Change("name", FULL, b"n" * 33)]
+LONGER = 40  # more bytes than a change adds to a file
 
 
 class Differ(Exception):
@@ -49,6 +57,65 @@ def wrong(test, *arguments):
     return False
 
 
+# What is saved
+
+
+def name_of(length):
+    """A name of that many bytes, 0 and 255 among them."""
+    return (b"\0\xff of any length" * (length // 16 + 1))[:length]
+
+
+def held(file, field, article):
+    """What a file has there already."""
+    job = rules.read(file, (CHOICE,))
+    return getattr(job if field == "order" else job.articles[article], field)
+
+
+def absent(n):
+    """Numbers that none of n articles has."""
+    return sorted({i for i in (n, n + 1, 63, 64, 2**32, 2**63, FULL) if i >= n})
+
+
+def bound_of(job, field, article):
+    """The members of such a set are below it."""
+    return article if field == "clashes" else job.wishes
+
+
+def at_the_edge(bound):
+    """The empty set, all that fits and all that there is; the highest that fits and what does not, alone and with 0."""
+    alone = [2**i for i in (bound - 1, bound, bound + 1, 63) if 0 <= i < 64]
+    return [0, 2**bound - 1, FULL, *alone, *(member | 1 for member in alone)]
+
+
+def values(file, field, article, few):
+    """What is there already; names of every length; sets at the edge of what fits, and all sets if they are to have few members."""
+    if field == "name":
+        return [held(file, field, article), *map(name_of, LENGTHS)]
+    bound = bound_of(rules.read(file, (CHOICE,)), field, article)
+    numbers = {number(held(file, field, article)), *at_the_edge(bound), *(range(2 ** (bound + 1)) if few else ())}
+    return list(map(of, sorted(numbers)))
+
+
+def changes(file, articles, few=False):
+    """Of the order, and of each field of these articles."""
+    places = [("order", None), *product(FIELDS, articles)]
+    return [Change(*place, value) for place in places for value in values(file, *place, few)]
+
+
+def drawn_place(job, draw):
+    n, field = len(job.articles), draw.choice(["order", *FIELDS])
+    return field, None if field == "order" else draw.choice([*range(n)] * 6 + absent(n))
+
+
+def drawn_change(job, draw, field, article):
+    """One that mostly fits."""
+    if field == "name":
+        return Change(field, article, draw.choice([drawn_name(draw), name_of(draw.choice(LENGTHS[:-1]))]))
+    bound = min(bound_of(job, field, article), 64)
+    fitting = [draw.randrange(2**bound) for _ in range(4)]
+    return Change(field, article, of(draw.choice(fitting * 3 + at_the_edge(bound))))
+
+
 # What is asked
 
 
@@ -56,7 +123,7 @@ class Beside:
     """Asks ours and the second program, compares, and counts what was compared and what of it mattered."""
 
     def __init__(self, library):
-        self.ours, self.tally = Library(library), Counter()
+        self.ours, self.tally, self.in_turn = Library(library), Counter(), cycle(IN_TURN)
 
     def answer(self, words, action, *arguments):
         """The second program's answer, None for a refusal; and status and words that C is to have for it."""
@@ -68,7 +135,7 @@ class Beside:
         return found, (0, words(found))
 
     def same(self, call, arguments, expected, buffer=None):
-        """Status, words and all slices are as expected; the slices keep what they held, but for the last, the buffer."""
+        """Status, words and all slices of ours are as expected; the slices keep what they held, but for the last, the buffer."""
         lent = slices(arguments)
         self.tally["comparisons"] += 1
         self.tally["null slices"] += lent.count([])
@@ -77,6 +144,7 @@ class Beside:
         if ours != theirs:
             asked = " ".join(map(in_short, arguments))
             raise Differ(f"{call} {asked}: ours {ours}, the second program {theirs}")
+        return ours
 
     def partition(self, file, count):
         buffer = [MARK[1]] * count
@@ -134,10 +202,77 @@ class Beside:
         self.tally["alike though not the same"] += bool(found) and first != second
         self.same("compare", (first, second), expected)
 
+    def save(self, file, change, count):
+        """The new file of ours; None if there is none."""
+        field, article, value = change
+        buffer = [MARK[1]] * count
+        found, expected = self.answer(lambda pair: (pair[0], 0), rules.save, file, change, buffer)
+        self.count_saved(file, change, count, *expected)
+        given = (value if field == "name" else number(value), (1, buffer))
+        arguments = (file, *given) if field == "order" else (file, article, *given)
+        status, (length, _), slices_after = self.same(f"save_{field}", arguments, expected, found and found[1])
+        return None if status else bytes(slices_after[-1][:length])
+
+    def count_saved(self, file, change, count, status, words):
+        """Counts what each call was answered, and what the change came to."""
+        field, _, value = change
+        call = f"save_{field}"
+        if status:
+            of_the_new = status in (6, 7) and not wrong(rules.read, file, (CHOICE,))
+            self.tally[f"{call} refused {status}" + (" for the new file" if of_the_new else "")] += 1
+            self.tally["names longer than a byte tells"] += of_the_new and field == "name" and len(value) > 255
+            return
+        was = held(file, *change[:2])
+        self.tally[f"{call} answered"] += 1
+        if value == was:
+            self.tally["saved as it was"] += 1
+        elif field != "order":
+            self.tally["fields dropped" if not value else "fields replaced" if was else "fields new"] += 1
+        self.tally["orders of zero"] += field == "order" and not value
+        self.tally["longest names saved"] += field == "name" and len(value) == 32
+        self.tally["saved into just enough"] += count == words[0]
+        self.tally["saved into less than the old file"] += count < len(file)
+
+    def agree(self, what, found, expected):
+        """Two files are the same bytes."""
+        self.tally[what] += 1
+        if found != expected:
+            raise Differ(f"{what}: {found and found.hex()} and not {expected and expected.hex()}")
+
     # Several calls on one file
 
+    def saving(self, file, change):
+        """Into a buffer that is long enough, and none; if it is saved, also into one that is a byte too short, one that has just the
+        length, and one of three bytes more. Then what was there before is saved back."""
+        new = self.save(file, change, len(file) + LONGER)
+        self.save(file, change, 0)
+        if new is None:
+            return
+        for count in (len(new) - 1, len(new), len(new) + 3):
+            self.save(file, change, count)
+        back = change._replace(value=held(file, *change[:2]))
+        self.agree("saved back", self.save(new, back, len(file)), file)
+
+    def after(self, file, *changes):
+        """The file after these changes; None if one is refused."""
+        for change in changes:
+            file = file and self.save(file, change, len(file) + LONGER)
+        return file
+
+    def saving_twice(self, file, first, second):
+        """Two changes one after the other: of one field the second counts; of two fields it makes no difference which comes first."""
+        if self.after(file, first) and self.after(file, second):
+            other = self.after(file, second) if first[:2] == second[:2] else self.after(file, second, first)
+            self.agree("saved twice", self.after(file, first, second), other)
+
+    def saves(self, file):
+        """Each call that saves, on a file that need not be in order."""
+        for change in PLAIN:
+            self.save(file, change, len(file) + LONGER)
+
     def reading(self, file):
-        """Each of the nine calls, with little else than the file: a refused one has to be refused alike by all."""
+        """The nine calls that do not save, and in turn one that does, with little else than the file: a refused one has to be
+        refused alike by all."""
         self.partition(file, 64)
         self.filter_pass(file, [0] * 64, 0, 1)
         self.choose(file, [0] * 64, [], FULL)
@@ -149,6 +284,7 @@ class Beside:
         self.compare(file, A)
         self.compare(A, file)
         self.compare(file, file[:-1])
+        self.save(file, next(self.in_turn), len(file) + LONGER)
 
     def choice(self, file, draw):
         """The calls on a choice file that is in order, with arguments that are and such that are not."""
@@ -214,6 +350,18 @@ class Beside:
         for place, bit in product(range(len(file)), range(8)):
             self.compare(file, file[:place] + bytes([file[place] ^ 1 << bit]) + file[place + 1 :])
 
+    def saving_in_full(self, file):
+        """Every change of a few members, names of every length, and articles that there are not, with values of either sort."""
+        job = rules.read(file, (CHOICE,))
+        for change in changes(file, range(len(job.articles)), few=True):
+            self.tally["two faults"] += bool(rules.wrong_value(job, change))  # once there is no buffer, either
+            self.saving(file, change)
+        for article, field in product(absent(len(job.articles)), FIELDS):
+            for value in (b"", b"a", b"n" * 33) if field == "name" else (set(), {0}, {63}):
+                for count in (0, len(file) + LONGER):
+                    self.tally["two faults"] += bool(rules.wrong_value(job, Change(field, 0, value))) or not count
+                    self.save(file, Change(field, article, value), count)
+
     def layers_in_full(self, file):
         """Every layer, and some that there are not, in buffers that are too short, long enough, and longer."""
         horizon = rules.read(file, (FITTING,)).horizon
@@ -250,7 +398,9 @@ class Beside:
         self.choose(file, [0], [0], FULL)
         self.layer(file, "fact", 4, 1)
         self.layer(file, "round", 4, 1)
-        self.tally["two faults"] += 4
+        for change in (Change("order", None, {63}), Change("wishes", FULL, {63}), Change("clashes", 64, {63}), IN_TURN[-1]):
+            self.save(file, change, 1)
+        self.tally["two faults"] += 8
 
     def names_in_full(self, file):
         for at in (*range(66), 2**32, 2**63, FULL):
@@ -269,9 +419,13 @@ def stated(beside):
         raise Differ(f"A has {len(A)} bytes")
     for file, reason, place in ((cut, 2, 45), (longer, 8, 46), (too_many, 3, 1)):
         beside.same("partition", (file, (1, [])), (reason, (place, 0)))
+    ordered, dropped = [*A[:3], 1, *A[4:]], [*A[:20], 1, *A[21:29], *A[37:]]
+    beside.same("save_order", (A, 1, (1, [MARK[1]] * 46)), (0, (46, 0)), ordered)
+    beside.same("save_clashes", (A, 1, 0, (1, [MARK[1]] * 38)), (0, (38, 0)), dropped)
     faulty = [cut, longer, too_many, b"", b"B", N[:-1], F[:-1], M[:-1]]
     for file in CHOICES:
         beside.choice_in_full(file)
+        beside.saving_in_full(file)
     for file in FITTINGS:
         beside.fitting_in_full(file)
     beside.layers_in_full(written(full_fitting()))
@@ -280,9 +434,28 @@ def stated(beside):
     for file in CHOICES + FITTINGS + faulty:
         beside.reading(file)
         beside.names_in_full(file)
+        beside.saves(file)
         for other in CHOICES + FITTINGS + faulty:
             beside.compare(file, other)
     beside.tally["calls on stated files"] = beside.tally["comparisons"]
+
+
+def saved(beside):
+    """Small files, drawn ones, and ones of 64 articles, with drawn changes; and the longest, with changes at the edge."""
+    draw = random.Random(20261116)
+    for file in over_limits():
+        beside.saves(file)
+    jobs = [*(rules.read(file, (CHOICE,)) for file in small_choices()), *(drawn_choice(draw) for _ in range(300))]
+    for job in jobs + [wide_choice(draw) for _ in range(10)]:
+        file = written(job)
+        for _ in range(4):
+            beside.saving(file, drawn_change(job, draw, *drawn_place(job, draw)))
+        one, other = drawn_place(job, draw), drawn_place(job, draw)
+        for first, second in ((one, other), (one, one)):
+            beside.saving_twice(file, drawn_change(job, draw, *first), drawn_change(job, draw, *second))
+    longest = written(full_choice())
+    for change in changes(longest, (0, 1, 63)):
+        beside.saving(longest, change)
 
 
 def run(beside):
@@ -305,6 +478,7 @@ def run(beside):
         for job in (drawn_choice(draw), drawn_fitting(draw)):
             for file in damaged(written(job), draw):
                 beside.reading(file)
+    saved(beside)
     for file in LONG_SEARCHES.values():
         beside.plan(file, 16)
         beside.tally["long searches"] += 1

@@ -33,6 +33,12 @@ def wide_choice(draw):
     return Choice(64, {63, *draw.sample(range(63), ordered - 1)}, articles)
 
 
+def full_choice():
+    """The longest file: 64 articles and 64 wishes, each article with all fields that it may have, and names of 32 bytes."""
+    articles = [Article({i, 63}, {0, i - 1} if i else set(), bytes([i]) * 32) for i in range(64)]
+    return Choice(64, {0, 63}, articles)
+
+
 def drawn_fitting(draw):
     n, facts = draw.randrange(6), draw.randrange(7)
     needs, gives, takes = draw.choice([(0.3, 0.4, 0.3), (0.3, 0.2, 0.1), (0.2, 0.2, 0.3)])

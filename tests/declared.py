@@ -9,9 +9,9 @@ import source
 from run import demand
 
 PROMISES = "crates/demands/proofs/Promises.antt"
-DEMANDS = "crates/demands/proofs/Demands.antt"
 LIB = "crates/demands/proofs/Lib.antt"
-MODULE = "Rattle.demands.proofs.Demands"
+# The files of theorems that are promised, each with the section of docs/TRACE.md that names them.
+THEOREMS = {"Demands": "The demands", "Saving": "The requests"}
 NAME = r"[^\s(){}.;,@\"]+"
 MARKS = r"((?:(?:pub|abbrev|unfoldable) )*)"
 SIGNATURE = re.compile(rf"{MARKS}({NAME}(?: {NAME})*) :(?:\s|$)")
@@ -130,13 +130,28 @@ def traced(root):
     return len(set(found))
 
 
-# ---- the theorems of the demands
+# ---- the theorems of the demands and of the requests
 
 
-def of_the_demands(text):
-    """The theorems that the table "The demands" of docs/TRACE.md names."""
-    section = text.partition("\n## The demands\n")[2].partition("\n## ")[0]
-    return {name for column, cell in tables(section) if column.startswith("theorems of ") for name in quoted(cell) if name != "calls"}
+def theorem_file(module):
+    return f"crates/demands/proofs/{module}.antt"
+
+
+def import_of(module):
+    return f"Rattle.demands.proofs.{module}"
+
+
+def in_trace(text, module):
+    """The theorems of a file that docs/TRACE.md names: in its section, in the column whose heading has the file."""
+    section = text.partition(f"\n## {THEOREMS[module]}\n")[2].partition("\n## ")[0]
+    column = f"theorems of `{theorem_file(module)}`"
+    return {name for heading, cell in tables(section) if heading == column for name in quoted(cell) if name != "calls"}
+
+
+def named_under(root, section):
+    """How many theorems a section of docs/TRACE.md names."""
+    text = (root / "docs" / "TRACE.md").read_text()
+    return sum(len(in_trace(text, module)) for module in THEOREMS if THEOREMS[module] == section)
 
 
 def imported(text, module):
@@ -146,17 +161,21 @@ def imported(text, module):
 
 
 def promised(root):
-    """How many theorems the demands have: docs/TRACE.md names those that Demands.antt declares, and Promises.antt, which the checker reads, imports just these."""
-    for path in (PROMISES, DEMANDS):
+    """How many theorems are promised: docs/TRACE.md names those that each file declares, and Promises.antt, which the checker reads, imports just these."""
+    for path in (PROMISES, *map(theorem_file, THEOREMS)):
         demand((root / path).is_file(), f"{path} is missing")
-    stated = {name for name, public in signatures((root / DEMANDS).read_text()) if public}
-    named = of_the_demands((root / "docs" / "TRACE.md").read_text())
-    taken = imported((root / PROMISES).read_text(), MODULE)
-    demand(stated, f"{DEMANDS} declares no theorem")
-    demand(named == stated, f"the table of docs/TRACE.md and {DEMANDS} differ in {sorted(named ^ stated)}")
-    demand(taken == stated, f"{PROMISES} and {DEMANDS} differ in {sorted(taken ^ stated)}")
+    total = 0
+    for module in THEOREMS:
+        path = theorem_file(module)
+        stated = {name for name, public in signatures((root / path).read_text()) if public}
+        named = in_trace((root / "docs" / "TRACE.md").read_text(), module)
+        taken = imported((root / PROMISES).read_text(), import_of(module))
+        demand(stated, f"{path} declares no theorem")
+        demand(named == stated, f"docs/TRACE.md and {path} differ in {sorted(named ^ stated)}")
+        demand(taken == stated, f"{PROMISES} and {path} differ in {sorted(taken ^ stated)}")
+        total += len(stated)
     demand("Promises" in re.findall(r"^pub mod (\S+)", source.antt((root / LIB).read_text()), re.M), f"{LIB} does not declare Promises")
-    return len(stated)
+    return total
 
 
 # ---- docs/ARCHITECTURE.md

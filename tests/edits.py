@@ -74,13 +74,24 @@ def said(crate, text, table):
         demand(any(old in row for _, old, _ in made for row in stated), "it changes another row than the one that it names")
 
 
+def made_in(folder, made):
+    """The old words of an edit are in the file of its crate, once, when it is their turn. rt asks for that, too, but only when it tries the edit."""
+    texts = {}
+    for file, old, new in made:
+        demand((folder / file).is_file(), f"there is no {file}")
+        text = texts.setdefault(file, (folder / file).read_text())
+        demand(text.count(old) == 1, f"'{old}' is {text.count(old)} times in {file}")
+        texts[file] = text.replace(old, new)
+
+
 def all_said(root):
-    """How many edits there are below a root: each says what it has to."""
+    """How many edits there are below a root: each says what it has to, and its words are there."""
     table, faults = (root / TABLE).read_text(), []
     for edit in labelled(root):
         crate = edit.parts[-3]
         try:
             said(crate, edit.read_text(), table)
+            made_in(edit.parent.parent, changes(lines(edit.read_text())))
         except Exception as fault:  # all faults are told at once
             faults.append(f"{crate}/{edit.stem}: {fault}")
     demand(not faults, f"{len(faults)} must-fail edits: " + "; ".join(faults))

@@ -12,10 +12,14 @@
 #define FOUR(low) low, 0, 0, 0
 
 /* the articles 0 with wish 0; 1 with wish 1, clashing with 0; 2 with wishes 0 and 1; order {0, 1} */
-#define OF_A 67, 3, 2, EIGHT(3), 1, EIGHT(1), 3, EIGHT(2), EIGHT(1), 1, EIGHT(3)
+#define ONE 3, EIGHT(2), EIGHT(1)
+#define TWO 1, EIGHT(3)
+#define A_WITH(order, ...) 67, 3, 2, EIGHT(order), 1, EIGHT(1), __VA_ARGS__
+#define OF_A A_WITH(3, ONE, TWO)
 static const uint8_t A[] = {OF_A}, A_LONGER[] = {OF_A, 0};
 /* the same, where article 2 has the name "ab" */
-static const uint8_t A_NAMED[] = {67, 3, 2, EIGHT(3), 1, EIGHT(1), 3, EIGHT(2), EIGHT(1), 5, EIGHT(3), 2, 'a', 'b'};
+#define TWO_NAMED 5, EIGHT(3), 2, 'a', 'b'
+static const uint8_t A_NAMED[] = {A_WITH(3, ONE, TWO_NAMED)};
 /* the articles 0 with wish 0; 1 with wishes 0 and 1, clashing with 0; 2 with wish 2; order {0, 1, 2} */
 static const uint8_t B[] = {67, 3, 3, EIGHT(7), 1, EIGHT(1), 3, EIGHT(3), EIGHT(1), 1, EIGHT(4)};
 /* the steps 0: needs 0, gives 1, takes 0; 1: needs 1, gives 2; 2: needs 1, gives 3; start {0}, goal {2, 3} */
@@ -23,6 +27,10 @@ static const uint8_t B[] = {67, 3, 3, EIGHT(7), 1, EIGHT(1), 3, EIGHT(3), EIGHT(
 static const uint8_t F[] = {OF_F(3)}, F_NEAR[] = {OF_F(1)};
 /* the steps 0: gives 0; 1: gives 1, takes 0; start empty, goal {0, 1}, horizon 2 */
 static const uint8_t G[] = {70, 2, 2, 2, FOUR(0), FOUR(3), 2, FOUR(1), 6, FOUR(2), FOUR(1)};
+/* an article without fields */
+static const uint8_t BARE[] = {67, 1, 0, EIGHT(0), 0};
+/* names are its first bytes; cut to one byte, the lengths 256 to 288 would be 0 to 32 */
+static const uint8_t NAME[256 + KITCHEN_NAME_BYTES] = {'n'};
 /* files that are refused */
 static const uint8_t FORBIDDEN[] = {67, 1, 1, EIGHT(0), 8}, EMPTY_FIELD[] = {67, 1, 1, EIGHT(0), 1, EIGHT(0)};
 static const uint8_t ABSENT[] = {67, 0, 1, EIGHT(2)}, LONG_NAME[] = {67, 1, 0, EIGHT(0), 4, KITCHEN_NAME_BYTES + 1};
@@ -143,7 +151,7 @@ static int fact_layer(void)
     FILLS(kitchen_fact_layer(SLICE(G), 1, words, KITCHEN_FACT_WORDS + 1, out), 3, 4, KITCHEN_FACT_WORDS, 2, 1);
     FILLS(kitchen_fact_layer(SLICE(G), 2, words, KITCHEN_FACT_WORDS, out), 3, 4, KITCHEN_FACT_WORDS, 0, 0);
     FILLS(kitchen_fact_layer(SLICE(F), 0, words, KITCHEN_FACT_WORDS, out), 1, 4, KITCHEN_FACT_WORDS, 0);
-    GIVES(kitchen_fact_layer(SLICE(G), 3, words, KITCHEN_FACT_WORDS, out), KITCHEN_ABSENT_LAYER, 0, 0);
+    GIVES(kitchen_fact_layer(SLICE(G), 3, words, KITCHEN_FACT_WORDS, out), KITCHEN_OUT_OF_RANGE, 0, 0);
     GIVES(kitchen_fact_layer(SLICE(G), 1, words, KITCHEN_FACT_WORDS - 1, out), KITCHEN_SHORT_BUFFER, 0, 0);
     return seen;
 }
@@ -154,7 +162,8 @@ static int round_layer(void)
     const uint64_t step = (uint64_t)1 << 32;
     FILLS(kitchen_round_layer(SLICE(F), 1, wide, KITCHEN_ROUND_WORDS, out), 1 + step, 8, KITCHEN_ROUND_WORDS, [0] = step, [32] = 1);
     FILLS(kitchen_round_layer(SLICE(G), 1, wide, KITCHEN_ROUND_WORDS + 1, out), 3 * step, 8, KITCHEN_ROUND_WORDS, [32] = 2 * step, step);
-    GIVES(kitchen_round_layer(SLICE(G), 0, wide, KITCHEN_ROUND_WORDS, out), KITCHEN_ABSENT_LAYER, 0, 0);
+    GIVES(kitchen_round_layer(SLICE(G), 0, wide, KITCHEN_ROUND_WORDS, out), KITCHEN_OUT_OF_RANGE, 0, 0);
+    GIVES(kitchen_round_layer(SLICE(G), 3, wide, KITCHEN_ROUND_WORDS, out), KITCHEN_ABSENT_LAYER, 0, 0); /* by its older name */
     GIVES(kitchen_round_layer(SLICE(G), 1, wide, KITCHEN_ROUND_WORDS - 1, out), KITCHEN_SHORT_BUFFER, 0, 0);
     return seen;
 }
@@ -200,6 +209,63 @@ static int compare(void)
     return seen;
 }
 
+static int save_order(void)
+{
+    int seen = 0;
+    FILLS(kitchen_save_order(SLICE(A), 1, bytes, 46, out), 46, 1, 0, A_WITH(1, ONE, TWO));
+    FILLS(kitchen_save_order(SLICE(A), 0, bytes, MOST, out), 46, 1, 0, A_WITH(0, ONE, TWO));
+    FILLS(kitchen_save_order(SLICE(A_NAMED), 3, bytes, 49, out), 49, 1, 0, A_WITH(3, ONE, TWO_NAMED));
+    GIVES(kitchen_save_order(SLICE(A), 1, bytes, 45, out), KITCHEN_SHORT_BUFFER, 0, 0);
+    GIVES(kitchen_save_order(SLICE(A), 4, NULL, 0, out), KITCHEN_ABSENT_MEMBER, 3, 0);
+    GIVES(kitchen_save_order(A, sizeof A - 1, 4, bytes, MOST, out), KITCHEN_ENDS_EARLY, 45, 0);
+    GIVES(kitchen_save_order(SLICE(F), 0, bytes, MOST, out), KITCHEN_WRONG_KIND, 0, 0);
+    return seen;
+}
+
+static int save_wishes(void)
+{
+    int seen = 0;
+    FILLS(kitchen_save_wishes(SLICE(A), 1, 3, bytes, 47, out), 46, 1, 0, A_WITH(3, 3, EIGHT(3), EIGHT(1), TWO));
+    FILLS(kitchen_save_wishes(SLICE(A), 1, 0, bytes, 38, out), 38, 1, 0, A_WITH(3, 2, EIGHT(1), TWO));
+    GIVES(kitchen_save_wishes(SLICE(A), 1, 0, bytes, 37, out), KITCHEN_SHORT_BUFFER, 0, 0);
+    GIVES(kitchen_save_wishes(SLICE(A), 1, 4, bytes, MOST, out), KITCHEN_ABSENT_MEMBER, 21, 0);
+    GIVES(kitchen_save_wishes(SLICE(A), 3, 4, NULL, 0, out), KITCHEN_OUT_OF_RANGE, 0, 0);
+    GIVES(kitchen_save_wishes(SLICE(A), ((uint64_t)1 << 32) + 1, 1, bytes, MOST, out), KITCHEN_OUT_OF_RANGE, 0, 0);
+    GIVES(kitchen_save_wishes(SLICE(A_LONGER), 3, 4, bytes, MOST, out), KITCHEN_TRAILING_BYTES, 46, 0);
+    GIVES(kitchen_save_wishes(SLICE(F), 0, 1, bytes, MOST, out), KITCHEN_WRONG_KIND, 0, 0);
+    return seen;
+}
+
+static int save_clashes(void)
+{
+    int seen = 0;
+    FILLS(kitchen_save_clashes(SLICE(A), 1, 0, bytes, 38, out), 38, 1, 0, A_WITH(3, 1, EIGHT(2), TWO));
+    FILLS(kitchen_save_clashes(SLICE(A), 2, 3, bytes, 54, out), 54, 1, 0, A_WITH(3, ONE, 3, EIGHT(3), EIGHT(3)));
+    GIVES(kitchen_save_clashes(SLICE(A), 2, 3, bytes, 53, out), KITCHEN_SHORT_BUFFER, 0, 0);
+    GIVES(kitchen_save_clashes(SLICE(A), 1, 2, bytes, MOST, out), KITCHEN_ABSENT_MEMBER, 29, 0);
+    GIVES(kitchen_save_clashes(SLICE(A), 1, 4, bytes, MOST, out), KITCHEN_ABSENT_MEMBER, 29, 0);
+    GIVES(kitchen_save_clashes(SLICE(BARE), 0, 1, bytes, MOST, out), KITCHEN_ABSENT_MEMBER, 12, 0);
+    GIVES(kitchen_save_clashes(SLICE(A), 3, 1, bytes, MOST, out), KITCHEN_OUT_OF_RANGE, 0, 0);
+    GIVES(kitchen_save_clashes(SLICE(F), 0, 0, bytes, MOST, out), KITCHEN_WRONG_KIND, 0, 0);
+    return seen;
+}
+
+static int save_name(void)
+{
+    int seen = 0;
+    FILLS(kitchen_save_name(SLICE(A), 2, SLICE(BYTES('a', 'b')), bytes, 49, out), 49, 1, 0, A_WITH(3, ONE, TWO_NAMED));
+    FILLS(kitchen_save_name(SLICE(A_NAMED), 2, NULL, 0, bytes, 46, out), 46, 1, 0, OF_A);
+    FILLS(kitchen_save_name(SLICE(BARE), 0, NAME, KITCHEN_NAME_BYTES, bytes, 45, out), 45, 1, 45, 67, 1, 0, EIGHT(0), 4, 32, 'n');
+    GIVES(kitchen_save_name(SLICE(A), 2, SLICE(BYTES('a', 'b')), bytes, 48, out), KITCHEN_SHORT_BUFFER, 0, 0);
+    GIVES(kitchen_save_name(SLICE(A), 1, NAME, KITCHEN_NAME_BYTES + 1, bytes, MOST, out), KITCHEN_LONG_NAME, 37, 0);
+    GIVES(kitchen_save_name(SLICE(A), 1, NAME, 256, bytes, MOST, out), KITCHEN_LONG_NAME, 37, 0);
+    GIVES(kitchen_save_name(SLICE(A), 1, NAME, 257, bytes, MOST, out), KITCHEN_LONG_NAME, 37, 0);
+    GIVES(kitchen_save_name(SLICE(A_NAMED), 2, SLICE(NAME), NULL, 0, out), KITCHEN_LONG_NAME, 46, 0);
+    GIVES(kitchen_save_name(SLICE(A), 3, SLICE(NAME), NULL, 0, out), KITCHEN_OUT_OF_RANGE, 0, 0);
+    GIVES(kitchen_save_name(SLICE(F), 0, NULL, 0, bytes, MOST, out), KITCHEN_WRONG_KIND, 0, 0);
+    return seen;
+}
+
 int main(void)
 {
     printf("kitchen_version: %d, ", version());
@@ -211,6 +277,10 @@ int main(void)
     printf("kitchen_plan: %d, ", plan());
     printf("kitchen_name: %d, ", name());
     printf("kitchen_find: %d, ", find());
-    printf("kitchen_compare: %d\n", compare());
+    printf("kitchen_compare: %d, ", compare());
+    printf("kitchen_save_order: %d, ", save_order());
+    printf("kitchen_save_wishes: %d, ", save_wishes());
+    printf("kitchen_save_clashes: %d, ", save_clashes());
+    printf("kitchen_save_name: %d\n", save_name());
     return faults ? 1 : 0;
 }

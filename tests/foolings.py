@@ -240,21 +240,37 @@ def edit_files(folder):
     for crate, text in (("one", CHANGE + INPUT), ("two", CHANGE)):
         (folder / "crates" / crate / "must-fail").mkdir(parents=True)
         (folder / "crates" / crate / "must-fail" / "wrong.edit").write_text(text)
+        (folder / "crates" / crate / "src").mkdir()
+        (folder / "crates" / crate / "src" / "lib.rt").write_text("fn f() { a + b }\n")
     (folder / edits.TABLE).parent.mkdir(parents=True)
     (folder / edits.TABLE).write_text(TABLE)
     found("an edit of a tree", "1 must-fail edits: two/wrong: it lacks a line 'input'", edits.all_said, folder)
+    (folder / "crates" / "two" / "must-fail" / "wrong.edit").write_text(CHANGE + INPUT)
+    passes("two edits of a tree", edits.all_said, folder)
+    code = folder / "crates" / "one" / "src" / "lib.rt"
+    for label, text, count in (("gone", "fn f() { a * b }\n", 0), ("there twice", "fn f() { a + b }\nfn g() { a + b }\n", 2)):
+        code.write_text(text)
+        found(f"an edit whose words are {label}", f"one/wrong: 'a + b' is {count} times in src/lib.rt", edits.all_said, folder)
+    code.unlink()
+    found("an edit of a file that is not there", "one/wrong: there is no src/lib.rt", edits.all_said, folder)
 
 
 # ---- names
 
 
+def theorems(folder, module):
+    return [name for name, public in declared.signatures((folder / declared.theorem_file(module)).read_text()) if public]
+
+
 def with_promises(folder):
-    """A copy of all that docs/TRACE.md names, with a file Promises.antt that imports all theorems of the demands."""
+    """A copy of all that docs/TRACE.md names, with a file Promises.antt that imports all theorems of the demands and of the requests."""
     for part in ("crates", "docs", "host", "include", "reference", "tests", "tools"):
         shutil.copytree(HERE / part, folder / part, ignore=shutil.ignore_patterns("__pycache__"))
-    stated = [name for name, public in declared.signatures((folder / declared.DEMANDS).read_text()) if public]
-    lists = "".join(f"use {declared.MODULE}.{{{', '.join(part)}}}\n" for part in (stated[:1], stated[1:5], stated[5:]))
-    (folder / declared.PROMISES).write_text(f"-- All of them.\n{lists}")
+    lines = ["-- All of them.\n"]
+    for module in declared.THEOREMS:
+        stated = theorems(folder, module)
+        lines += [f"use {declared.import_of(module)}.{{{', '.join(part)}}}\n" for part in (stated[:1], stated[1:3], stated[3:])]
+    (folder / declared.PROMISES).write_text("".join(lines))
     lib = folder / declared.LIB
     lib.write_text("\n".join([*(line for line in lib.read_text().splitlines() if line != "pub mod Promises"), "pub mod Promises", ""]))
 
@@ -288,25 +304,29 @@ def declared_names(folder):
 
 
 def promises(folder):
-    page, demands, taken = (folder / name for name in ("docs/TRACE.md", declared.DEMANDS, declared.PROMISES))
-    one = next(name for name, public in declared.signatures(demands.read_text()) if public)
-    table = page.read_text().partition("\n## The demands\n")[2]
-    row = next(line for line in table.splitlines() if f"`{one}`" in line)
-    first = f"use {declared.MODULE}.{{{one}}}\n"
-    passes("the theorems of the demands", declared.promised, folder)
-    for label, path, old, new in (
-        ("a theorem deleted", demands, f"pub {one} :", f"-- {one}\npub another-{one} :"),
-        ("a theorem in a comment", demands, f"pub {one} :", f"-- pub {one} :"),
-        ("a theorem that is not pub", demands, f"pub {one} :", f"{one} :"),
-        ("a theorem that is not imported", taken, first, ""),
-        ("a theorem that is imported from elsewhere", taken, first, first.replace("Demands", "DemandLaws")),
-        ("an import in a comment", taken, first, f"-- {first}"),
-        ("an import in a long comment", taken, first, f"{{-\n{first}-}}\n"),
-        ("a row without a theorem", page, row, row.replace(f"`{one}`", "")),
-        ("a row of a theorem too many", page, row, row.replace(f"`{one}`", f"`{one}`, `another-{one}`")),
-    ):
-        with planted(path, old, new):
-            found(label, f"{one}'", declared.promised, folder)
+    page, taken = folder / "docs" / "TRACE.md", folder / declared.PROMISES
+    passes("the theorems of the demands and of the requests", declared.promised, folder)
+    for module, heading in declared.THEOREMS.items():
+        stated, one = folder / declared.theorem_file(module), theorems(folder, module)[0]
+        table = page.read_text().partition(f"\n## {heading}\n")[2]
+        row = next(line for line in table.splitlines() if f"`{one}`" in line)
+        first = f"use {declared.import_of(module)}.{{{one}}}\n"
+        for label, path, old, new in (
+            ("a theorem deleted", stated, f"pub {one} :", f"-- {one}\npub another-{one} :"),
+            ("a theorem in a comment", stated, f"pub {one} :", f"-- pub {one} :"),
+            ("a theorem that is not pub", stated, f"pub {one} :", f"{one} :"),
+            ("a theorem that is not imported", taken, first, ""),
+            ("a theorem that is imported from elsewhere", taken, first, first.replace(f".{module}.", ".DemandLaws.")),
+            ("an import in a comment", taken, first, f"-- {first}"),
+            ("an import in a long comment", taken, first, f"{{-\n{first}-}}\n"),
+            ("a row without a theorem", page, row, row.replace(f"`{one}`", "")),
+            ("a row of a theorem too many", page, row, row.replace(f"`{one}`", f"`{one}`, `another-{one}`")),
+        ):
+            with planted(path, old, new):
+                found(f"{module}: {label}", f"{one}'", declared.promised, folder)
+    second = "## The requests\n\n| promise | theorems of `crates/demands/proofs/Second.antt` |\n|---|---|\n| another | `one-more` |\n"
+    with planted(page, "## The requests\n", second):
+        passes("the table of another request", declared.promised, folder)
     with planted(folder / declared.LIB, "pub mod Promises", "-- pub mod Promises"):
         found("a file that the checker does not read", "does not declare Promises", declared.promised, folder)
     taken.unlink()

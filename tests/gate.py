@@ -13,6 +13,7 @@ import shlex
 import shutil
 import subprocess
 import sys
+import textwrap
 from collections import Counter
 from concurrent.futures import ThreadPoolExecutor
 
@@ -83,14 +84,15 @@ def edits_say_where():
 
 
 def counts():
-    """There are no fewer crates, programs, edits, rows of the proved table, theorems of the demands, and calls than tests/least.py says."""
+    """There are no fewer crates, programs, edits, rows of the proved table, theorems of the demands and of the requests, and calls than tests/least.py says."""
     there = {
         "crates": len(crates()),
         "programs": len(programs()),
         "must-fail edits": len(edits()),
         "crates with must-fail edits": len({edit.parts[-3] for edit in edits()}),
         "rows of the proved table": len(must_fail.rows((ROOT / must_fail.TABLE).read_text())),
-        "theorems of the demands": len(declared.of_the_demands((ROOT / "docs" / "TRACE.md").read_text())),
+        "theorems of the demands": declared.named_under(ROOT, "The demands"),
+        "theorems of the requests": declared.named_under(ROOT, "The requests"),
         "functions of the header": len(c_interface.declarations((ROOT / "include" / "kitchen.h").read_text())),
         "scripts of the second program": len(list((ROOT / "reference").glob("*.py"))),
         "sample jobs": len(list((ROOT / "jobs").glob("*.txt"))),
@@ -138,7 +140,7 @@ def trace():
 
 
 def promises():
-    """The theorems of the demands in docs/TRACE.md are those that Demands.antt declares, and Promises.antt, which the checker reads, imports each."""
+    """The theorems of the demands and of the requests in docs/TRACE.md are those that their files declare, and Promises.antt, which the checker reads, imports each."""
     return declared.promised(ROOT)
 
 
@@ -265,7 +267,7 @@ def named_numbers(text, shared):
 
 
 def header():
-    """include/kitchen.h declares the functions of capi with their types and no others, has its number, its reasons and its limits, and is plain C; the two programs in it run."""
+    """include/kitchen.h declares the functions of capi with their types and no others, has its number, its reasons and its limits, and is plain C; the two programs in it run, and its lines that save do."""
     text, number = interface()
     capi = (ROOT / "crates" / "capi" / "src" / "lib.rt").read_text()
     functions = list(c_interface.declarations(text))
@@ -276,13 +278,14 @@ def header():
     one_number(number, capi, shared)
     named = named_numbers(text, shared)
     run(["cc", "-std=c99", *STRICT, "-fsyntax-only", "-x", "c", "include/kitchen.h"])
-    in_c, in_python = shown(text)
+    in_c, in_python, saves = shown(text)
     (ROOT / "target" / "first.c").write_text(in_c)
     (ROOT / "target" / "first.py").write_text(in_python)
     run(["cc", "-std=c99", *STRICT, "target/first.c", archive, "-o", "target/first"])
     first_program(["target/first"])
     first_program([sys.executable, "-B", "target/first.py"])
-    return len(functions) + named + 2
+    saving_lines(saves, archive)
+    return len(functions) + named + 3
 
 
 def every_call():
@@ -296,10 +299,34 @@ def every_call():
 
 
 def shown(text):
-    """The programs in C and in Python in the header's comment, after the command that builds the library."""
+    """The programs in C and in Python in the header's comment, after the command that builds the library; and last the lines in C that save."""
     blocks = [re.sub(r"^ \*     ", "", block, flags=re.M) for block in re.findall(r"(?:^ \*     .*\n)+", text, re.M)]
-    demand(len(blocks) == 3 and blocks[0] == "tools/library\n", "the header shows how to build, a program in C, and one in Python")
+    found = len(blocks) == 4 and blocks[0] == "tools/library\n" and "kitchen_save_order" in blocks[3]
+    demand(found, "the header shows how to build, a program in C, one in Python, and how to save")
     return blocks[1:]
+
+
+SAVES = """#include "kitchen.h"
+#include <stdio.h>
+int main(void)
+{
+    uint8_t file[KITCHEN_LONGEST + 1];
+    uint64_t out[2], order = 1;
+    size_t len = fread(file, 1, sizeof file, stdin);
+    FILE *saved = stdout;
+%s    return 0;
+}
+"""
+
+
+def saving_lines(lines, archive):
+    """The header's lines that save, in a program around them, save A with the order {0}."""
+    (ROOT / "target" / "saves.c").write_text(SAVES % textwrap.indent(lines, "    "))
+    run(["cc", "-std=c99", *STRICT, "target/saves.c", archive, "-o", "target/saves"])
+    a = (ROOT / sample("A")).read_bytes()
+    with open(ROOT / sample("A"), "rb") as file:
+        saved = subprocess.run([str(ROOT / "target" / "saves")], stdin=file, capture_output=True, timeout=60)
+    demand(saved.stdout == a[:3] + b"\1" + a[4:], f"the header's lines that save give {saved.stdout.hex()}")
 
 
 def first_program(command):
@@ -432,7 +459,7 @@ def unpacked(tarball):
 
 
 def dist():
-    """make dist gives the same bytes twice; unpacked, its sums hold, its program answers F, and the C example is built against its library."""
+    """make dist gives the same bytes twice; unpacked, its sums hold, its program answers F, its tool changes A, and the C example is built against its library."""
     built_library()
     tarball = f"target/dist/kitchen-{interface()[1]}.tar.gz"
     demand(packed(tarball) == packed(tarball), "make dist made two different tarballs")
@@ -446,7 +473,11 @@ def dist():
     demand(shown.startswith("A kitchen of 1 article "), f"./show of the tarball tells of A: {shown}")
     told = run([f"{folder}/tools/job", "ask", "--next", "2", f"{folder}/jobs/A.txt"])
     demand("Further kitchen 2" in told, f"tools/job of the tarball tells of A: {told}")
-    return len(wanted) + 2 + example(["target/example_unpacked"])
+    run([f"{folder}/tools/job", "write", f"{folder}/jobs/A.txt", "-o", "target/A.job"])
+    run([f"{folder}/tools/job", "change", "target/A.job", "order", "#1", "-o", "target/A_changed.job"])
+    shown = run([f"{folder}/tools/job", "show", "target/A_changed.job"])
+    demand("The order has the wish 1." in shown, f"tools/job of the tarball changed A to: {shown}")
+    return len(wanted) + 3 + example(["target/example_unpacked"])
 
 
 def processor_seconds():
@@ -468,11 +499,11 @@ def beside():
 
 def faults():
     """Each mistake that the second program makes on purpose is found."""
-    for fault in range(1, 7):
+    for fault in range(1, 8):
         printed = run([sys.executable, "-B", "reference/beside.py", built_library()[1], "--fault", str(fault)], status=1)
         demand(re.search(r"^the second program .*; after \d+ comparisons: ", printed), f"fault {fault}: {printed}")
         print(f"fault {fault}: {printed[:printed.index(': ')]}", flush=True)
-    return 6
+    return 7
 
 
 def checks_of(script, parts=None):

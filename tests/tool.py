@@ -1,7 +1,8 @@
 """Tests of tools/job and host/kitchen.py. Called as `python3 -B tests/tool.py` in the repository's root.
 
-Neither kitchen nor the library is needed: what asks them is in tests/showroom.py. The last line is `N checks`, and the
-status 0; or what failed is printed, and the status is 1. Files are written to a temporary folder only.
+Neither kitchen nor the library is needed: what asks them is in tests/showroom.py, and changes have a stand-in here. The last
+line is `N checks`, and the status 0; or what failed is printed, and the status is 1. Files are written to a temporary folder
+only.
 """
 
 import os
@@ -10,6 +11,7 @@ import pty
 import random
 import re
 import select
+import shlex
 import signal
 import subprocess
 import sys
@@ -28,11 +30,12 @@ import drawn  # noqa: E402
 import kitchen  # noqa: E402
 import reader as reference  # noqa: E402
 import rules as second  # noqa: E402
-from showroom import asking, commands, files, guide, reasons, rules, texts, words  # noqa: E402
+from showroom import asking, changing, commands, files, guide, reasons, rules, texts, words  # noqa: E402
 
 TOOL = ROOT / "tools" / "job"
 RULES = (ROOT / "docs" / "RULES.md").read_text()
 SAMPLES = sorted((ROOT / "jobs").glob("*.txt"))
+SMALL_TEXT = ROOT / "jobs" / "A.txt"
 
 A = bytes.fromhex(
     "43 03 02 03 00 00 00 00 00 00 00"
@@ -537,7 +540,7 @@ def orders(folder):
         (b"fitting", True), (b"\xef\xbb\xbf# x\r\n\xc2\xa0fitting\r", True), (b"# \xff\n\nfitting\n\xff", True),
         (b"choice", False), (b"", False), (b"# x\xe2\x80\xa8fitting\nchoice", False), (b"fitting\x0b", False),
     ):
-        equal(texts.is_fitting(data), fitting, f"whether {data!r} is a fitting")
+        equal(texts.kind_of(data) is kitchen.FITTING, fitting, f"whether {data!r} is a fitting")
 
 
 # ---- job files
@@ -1018,9 +1021,376 @@ def plan_rules():
     check(kept > 100 and refused > 100, f"{kept} plans, {refused} that are none")
 
 
-# ---- streams
+# ---- changes
 
-SMALL_TEXT = ROOT / "jobs" / "A.txt"
+SHOP = reference.written(
+    reference.Choice(
+        3,
+        {0, 1},
+        [
+            reference.Article({0}, set(), b"Oven"),
+            reference.Article({1}, {0}, b"Oven, 60"),
+            reference.Article({2}, set(), b""),
+            reference.Article(set(), {0, 2}, b"a"),
+            reference.Article({0, 2}, set(), b"a"),
+            reference.Article({1}, {4}, ONE.encode()),
+            reference.Article(set(), set(), b"#1"),
+            reference.Article({0}, {6}, b"\xff"),
+            reference.Article({0}, {6}, b'19" rack'),
+        ],
+    )
+)
+HIGHEST = "#18446744073709551615"
+# Arguments, and the article and the value that they mean in SHOP. What is not there, or has no room, is not asked here.
+MEANT = [
+    (("order", None, None), None, set()),
+    (("order", None, ""), None, set()),
+    (("order", None, " \u00a0\t"), None, set()),
+    (("order", None, "#1"), None, {1}),
+    (("order", None, "wish 1"), None, {1}),
+    (("order", None, '"wish 1"'), None, {1}),
+    (("order", None, "#0,wish 2"), None, {0, 2}),
+    (("order", None, " #2 ,\u3000wish 0 "), None, {0, 2}),
+    (("order", None, "#2, #1, #0"), None, {0, 1, 2}),
+    (("order", None, "#3, #63, wish 62"), None, {3, 62, 63}),
+    (("order", None, "#" + "0" * 5000 + "63"), None, {63}),
+    (("wishes", "Oven", "wish 2"), 0, {2}),
+    (("wishes", " Oven\u00a0", None), 0, set()),
+    (("wishes", "Oven, 60", "#1"), 1, {1}),
+    (("wishes", '"Oven, 60"', "#1"), 1, {1}),
+    (("wishes", "#2", "#63"), 2, {63}),
+    (("wishes", "#007", ""), 7, set()),
+    (("wishes", '"#1"', "#0"), 6, {0}),
+    (("wishes", '"\\xFF"', "#0"), 7, {0}),
+    (("wishes", '"19\\" rack"', "#0"), 8, {0}),
+    (("wishes", ONE, "#0"), 5, {0}),
+    (("wishes", TWO, "#0"), 5, {0}),
+    (("wishes", "#9", "#0"), 9, {0}),
+    (("wishes", HIGHEST, "#0"), 2**64 - 1, {0}),
+    (("wishes", "#" + "0" * 5000 + "1", "#0"), 1, {0}),
+    (("clashes", "#5", 'Oven, "Oven, 60", #2'), 5, {0, 1, 2}),
+    (("clashes", "#5", f'"#1", {TWO}, "\\xFF"'), 5, {5, 6, 7}),
+    (("clashes", "Oven", "Oven, #1, #63"), 0, {0, 1, 63}),
+    (("clashes", HIGHEST, None), 2**64 - 1, set()),
+    (("name", "#0", "Ofen"), 0, b"Ofen"),
+    (("name", "#0", " Oven, 70 cm "), 0, b"Oven, 70 cm"),
+    (("name", "#0", '" Oven"'), 0, b" Oven"),
+    (("name", "#0", '"\\x00\\xff\\"#"'), 0, b'\x00\xff"#'),
+    (("name", "#0", TWO), 0, TWO.encode()),
+    (("name", "#0", "x" * 70000), 0, b"x" * 70000),
+    (("name", "#0", "a"), 0, b"a"),
+    (("name", "#0", "wish 3"), 0, b"wish 3"),
+    (("name", "#0", ""), 0, b""),
+    (("name", "#0", " "), 0, b""),
+    (("name", "Oven", None), 0, b""),
+]
+# Arguments for SHOP, and their faults: the argument, and a part of the message.
+NOT_MEANT = [
+    (("order", None, "oak"), [("LIST", 'no wish is named "oak"; expected its number, as #3 or "wish 3"')]),
+    (("order", None, "Oven"), [("LIST", 'no wish is named "Oven"')]),
+    (("order", None, "wish 01"), [("LIST", 'no wish is named "wish 01"')]),
+    (("order", None, "Wish 1, wish1"), [("LIST", 'named "Wish 1"'), ("LIST", 'named "wish1"')]),
+    (("order", None, "wish ٣"), [("LIST", "no wish is named")]),
+    (("order", None, "1"), [("LIST", 'no wish is named "1"; expected its number, as #3')]),
+    (("order", None, "#1, wish 1"), [("LIST", '"wish 1" is in the list twice')]),
+    (("order", None, "#1, #01"), [("LIST", "#01 is in the list twice")]),
+    (("order", None, "#1,"), [("LIST", "the list ends with a comma; expected a further name")]),
+    (("order", None, "#1,, #2"), [("LIST", "a name is missing in front of a comma")]),
+    (("order", None, ","), [("LIST", "ends with a comma"), ("LIST", "in front of a comma")]),
+    (("order", None, "#"), [("LIST", "# is no number; expected one, as #3, or a name in quotation marks")]),
+    (("order", None, "#-1, #٣, #1x"), [("LIST", "#-1 is"), ("LIST", "#٣ is"), ("LIST", "#1x is no number")]),
+    (("order", None, "#1 # x"), [("LIST", "#1 # x is no number")]),
+    (("order", None, '"wish 1'), [("LIST", "has a quotation mark")]),
+    (("order", None, "wish\n1"), [("LIST", 'expected the name without it, or as "wish\\x0A1"')]),
+    (("wishes", "", "#1"), [("ARTICLE", "no article is named; expected the name of one, or its number, as #3")]),
+    (("wishes", "\u2003", "#1"), [("ARTICLE", "no article is named")]),
+    (("wishes", "Owen", "#1"), [("ARTICLE", 'no article is named "Owen"; expected the name of one, or its number, as #3 (near: "Oven")')]),
+    (("wishes", "3", "#1"), [("ARTICLE", 'no article is named "3"')]),
+    (("wishes", "OVEN", "#1"), [("ARTICLE", '(near: "Oven")')]),
+    (("wishes", "a", "#1"), [("ARTICLE", '2 articles are named "a"; expected a number, #3 or #4')]),
+    (("wishes", "#x", "#1"), [("ARTICLE", "#x is no number")]),
+    (("wishes", "wish 1", "#1"), [("ARTICLE", 'no article is named "wish 1"')]),
+    (("wishes", "Owen", "oak,"), [("ARTICLE", "Owen"), ("LIST", "a comma"), ("LIST", "oak")]),
+    (("clashes", "#5", "Oven, 60"), [("LIST", 'no article is named "60"')]),
+    (("clashes", "#5", "a"), [("LIST", '2 articles are named "a"; expected a number, #3 or #4')]),
+    (("clashes", "#5", "wish 1"), [("LIST", 'no article is named "wish 1"')]),
+    (("clashes", "#5", "Oven, #0"), [("LIST", "#0 is in the list twice")]),
+    (("clashes", "#5", f"{ONE}, {TWO}"), [("LIST", "is in the list twice")]),
+    (("name", "#0", '""'), [("NAME", "the name is empty")]),
+    (("name", "#0", "Nr #4"), [("NAME", 'Nr #4 has a #; expected the name as "Nr #4", with the marks')]),
+    (("name", "#0", "#4"), [("NAME", 'expected the name as "#4", with the marks')]),
+    (("name", "#0", '19" rack'), [("NAME", "has a quotation mark")]),
+    (("name", "#0", '"\\n"'), [("NAME", "a backslash stands alone")]),
+    (("name", "#0", "a\u202eb"), [("NAME", "does not print")]),
+    (("name", "Owen", "#"), [("ARTICLE", "Owen"), ("NAME", "# has a #")]),
+]
+# Arguments that no call can be given, and a part of the message.
+TOO_LARGE = [
+    (("order", None, "#64"), "argument LIST: #64 is too large; expected numbers below 64, as no set has room for others"),
+    (("order", None, "wish 64"), "argument LIST: wish 64 is too large"),
+    (("order", None, "#0, #0064"), "argument LIST: #0064 is too large"),
+    (("order", None, "#" + "9" * 5000), "argument LIST: #999"),
+    (("wishes", "#0", "#1, #100"), "argument LIST: #100 is too large"),
+    (("wishes", "#18446744073709551616", "#1"), "argument ARTICLE: #18446744073709551616 is too large; expected a number below 2^64"),
+    (("clashes", "#" + "1" * 5000, "#1"), "argument ARTICLE: #111"),
+    (("clashes", "#5", "oak, #64"), "argument LIST: #64 is too large"),
+    (("name", "#99999999999999999999", ""), "argument ARTICLE: #99999999999999999999 is too large"),
+]
+
+
+def cut_name(article):
+    """A name whose length has no byte is as wrong as one of 255 bytes, and at the same place."""
+    return article._replace(name=article.name[:255])
+
+
+def second_saved(file, what, *arguments):
+    """A file with a change, by the rules and with reference/."""
+    try:
+        job = reference.read(file, (reference.CHOICE,))
+        if what == "order":
+            job = job._replace(order=arguments[0])
+        elif arguments[0] >= len(job.articles):
+            raise reference.Refused(9, 0)
+        else:
+            job.articles[arguments[0]] = cut_name(job.articles[arguments[0]]._replace(**{what: arguments[1]}))
+        new = reference.written(job)
+        reference.read(new)
+        return new
+    except reference.Refused as refusal:
+        raise kitchen.Refused(refusal.reason, refusal.place) from None
+
+
+def second_changed(file, found):
+    return second_saved(file, *(part for part in found if part is not None))
+
+
+class StandIn:
+    """In place of the library, with the calls that save."""
+
+    def __init__(self, saves=second_saved):
+        for what in changing.CHANGES:
+            setattr(self, f"save_{what}", lambda file, *arguments, what=what: saves(file, what, *arguments))
+
+
+def says(answer):
+    """A stand-in that gives these bytes or raises this refusal, whatever it is asked."""
+
+    def saves(file, what, *arguments):
+        if isinstance(answer, Exception):
+            raise answer
+        return answer
+
+    return StandIn(saves)
+
+
+def with_library(library, action, *arguments, **options):
+    """The action, with this in place of the library."""
+    real, changing.Library = changing.Library, lambda: library
+    try:
+        return action(*arguments, **options)
+    finally:
+        changing.Library = real
+
+
+def change(*arguments, stdin=b"", library=StandIn()):
+    return with_library(library, quick, "change", *arguments, stdin=stdin)
+
+
+def meant():
+    """Lists and names of a change."""
+    for arguments, article, value in MEANT:
+        equal(changing.wanted(SHOP, *arguments), changing.Change(arguments[0], article, value), f"{arguments!r}"[:200])
+    for arguments, expected in NOT_MEANT:
+        try:
+            found = changing.wanted(SHOP, *arguments)
+            check(False, f"{arguments!r} means {found}")
+        except texts.Faulty as faulty:
+            equal([where for where, _ in faulty.faults], [where for where, _ in expected], f"{arguments!r}: {faulty.faults}")
+            for (_, message), (_, phrase) in zip(faulty.faults, expected):
+                check(phrase in message, f"{arguments!r}: {phrase!r} is not in {message!r}")
+                check("expected" in message and "comment" not in message, f"{arguments!r}: {message!r}")
+        for file in (b"", F, SHOP[:-1], SMALL_TEXT.read_bytes()):
+            check(changing.wanted(file, *arguments).what == arguments[0], f"{arguments!r}: no fault is told of {file[:20]}")
+    for arguments, phrase in TOO_LARGE:
+        for file in (SHOP, A, F, b""):
+            raised(changing.Beyond, phrase, changing.wanted, file, *arguments)
+    for word, kind in (("choice", kitchen.CHOICE), ("fitting", kitchen.FITTING), ("Choice", None), ("choices", None), ("", None)):
+        equal(texts.kind_of(f"# x\n\n {word}\nwishes:\n".encode()), kind, f"the kind of a text that says {word!r}")
+
+
+def arguments_of(found):
+    """What is changed, the article and the value, as arguments; None is one that there is not."""
+    article = None if found.article is None else f"#{found.article}"
+    if found.what == "name":
+        return found.what, article, words.quoted(found.value) if found.value else ""
+    return found.what, article, ", ".join(f"#{member}" for member in sorted(found.value))
+
+
+def drawn_change(source, job):
+    """A change that the job may allow or not."""
+    what, n = source.choice(list(changing.CHANGES)), len(job.articles)
+    article = None if what == "order" else source.choice([*range(n)] * 4 + [n, 63, 2**64 - 1])
+    if what == "name":
+        return changing.Change(what, article, source.choice([*NAMES, b"y" * 32, b"z" * 33, b"z" * 300]))
+    bound = job.wishes if what != "clashes" else article if source.random() < 0.8 else n
+    return changing.Change(what, article, drawn.some(source, min(64, bound + (source.random() < 0.3)), 0.4))
+
+
+def outcome_of(action, *arguments):
+    """The new file, a refusal in words, or that there is no answer."""
+    try:
+        return action(*arguments)
+    except kitchen.Refused as refusal:
+        return str(refusal)
+    except asking.Failed:
+        return "no answer"
+
+
+def changes_tried():
+    """What is told of a change is what the rules say; a library that gives another file or another reason is not believed."""
+    source, made, refused = random.Random(5), 0, 0
+    jobs = [drawn.drawn_choice(source) for _ in range(200)] + [drawn.wide_choice(source) for _ in range(3)]
+    for job in jobs:
+        file, found = reference.written(job), drawn_change(source, job)
+        equal(changing.wanted(file, *arguments_of(found)), found, f"{found} of {job}, as arguments")
+        right = outcome_of(second_changed, file, found)
+        equal(outcome_of(with_library, StandIn(), changing.saved, file, found), right, f"{found} of {job}")
+        made, refused = made + isinstance(right, bytes), refused + isinstance(right, str)
+        others = [file, file[:-1], file + b"\0", b"", F, A, reference.written(job._replace(order=job.order ^ {0} if job.wishes else set()))]
+        for other in others:
+            expected = right if other == right else "no answer"
+            equal(outcome_of(with_library, says(other), changing.saved, file, found), expected, f"{other.hex()} for {found} of {job}")
+        for number in (0, *range(1, 18), 99):
+            same = isinstance(right, str) and right.startswith(f"refused {number} at ")
+            told = outcome_of(with_library, says(kitchen.Refused(number, 0)), changing.saved, file, found)
+            equal(told, f"refused {number} at 0" if same else "no answer", f"a refusal by {number} for {found} of {job}")
+    check(made > 80 and refused > 40, f"{made} changes, {refused} refusals")
+
+
+# Arguments of the command for SHOP, and the new job as a text begins or has it.
+MADE = [
+    (["order", "wish 2"], "order: wish 2\n"),
+    (["order"], "order:\n"),
+    (["order", ""], "order:\n"),
+    (["wishes", "Oven", "#1, #2"], "article Oven\n  wishes: wish 1, wish 2\n\n"),
+    (["wishes", "Oven"], "article Oven\n\n"),
+    (["clashes", "#3", '"Oven, 60"'], 'article a\n  clashes: "Oven, 60"\n\n'),
+    (["clashes", "#3"], "article a\n\narticle a\n"),
+    (["name", "#2", "Sink"], "article Sink\n  wishes: wish 2\n"),
+    (["name", "Oven", ""], "\narticle\n  wishes: wish 0\n\narticle \"Oven, 60\"\n"),
+    (["name", "#2", "--", "-5 cm"], "article -5 cm\n"),
+    (["name", "#2", "--", "-x"], "article -x\n"),
+]
+# A file, arguments, the refusal, and parts of what is said of it.
+NOT_MADE = [
+    (SHOP, ["order", "#3"], "refused 6 at 3", ["Reason 6: ", "here it is 3.", "The place is in the new file, which was not written."]),
+    (SHOP, ["wishes", "Oven", "wish 3"], "refused 6 at 12", ["The place is in the new file, which was not written."]),
+    (SHOP, ["clashes", "Oven", "Oven"], "refused 6 at 20", ["an article clashes with a number that is not lower than its own"]),
+    (SHOP, ["clashes", "Oven", "#1"], "refused 6 at 20", ["Reason 6: "]),
+    (SHOP, ["name", "Oven", "x" * 33], "refused 7 at 20", ["Reason 7: ", "The place is in the new file, which was not written."]),
+    (SHOP, ["name", "Oven", "ä" * 128], "refused 7 at 20", ["Reason 7: "]),
+    (SHOP, ["wishes", "#9", "#0"], "refused 9 at 0", ["Reason 9: " + reasons.REASONS[9][0]]),
+    (SHOP, ["name", HIGHEST], "refused 9 at 0", ["Reason 9: "]),
+    (A[:-1], ["order", "#0"], "refused 2 at 45", ["Reason 2: ", "the wishes of article 2, but the file has only 7 of them"]),
+    (A[:-1], ["name", "Owen", "#"], "refused 2 at 45", ["Reason 2: "]),
+    (A + A, ["order", "#0"], "refused 8 at 46", ["Reason 8: ", "The last record ends in front of byte 46"]),
+    (b"", ["order"], "refused 1 at 0", ["Reason 1: "]),
+    (F, ["name", "#0", "x"], "refused 1 at 0", ["Byte 0 holds the kind: 70.", "Read by itself, the file is a fitting file that is in order."]),
+    (F[:-1], ["order"], "refused 1 at 0", [f"Read by itself, the file is refused 2 at {len(F) - 1}."]),
+    (KITCHEN.encode(), ["order", "b"], "refused 1 at 0", ["The file begins as a text does: `tools/job write` makes a job file of it."]),
+    (b"\xef\xbb\xbf# x\r\n\r\nfitting\r\n", ["order", "b,"], "refused 1 at 0", ["The file begins as a text does"]),
+]
+
+
+def changes(folder):
+    """The command, with a stand-in for the library."""
+    path, new = folder / "shop.job", folder / "new.job"
+    path.write_bytes(SHOP)
+    for arguments, part in MADE:
+        status, output, errors = change(path, *arguments)
+        check((status, errors) == (0, "") and part in text_of(output).decode(), f"change {arguments}: {status}, {errors}\n{output}")
+        equal(change("-", *arguments, stdin=SHOP), (0, output, ""), f"change {arguments} of standard input")
+        for places in ((path, "-o", new), ("-o", new, path), (path, f"-o{new}")):
+            equal(change(*places, *arguments), (0, b"", ""), f"change {places} {arguments}")
+            equal(new.read_bytes(), output, f"what change {places} {arguments} wrote")
+            new.unlink()
+    equal(change(path, "order", "#1", "-o", new), (0, b"", ""), "-o after the list")
+    new.unlink()
+    for number, (file, arguments, refusal, phrases) in enumerate(NOT_MADE):
+        path.write_bytes(file)
+        status, output, errors = change(path, *arguments, "-o", new)
+        check((status, output, new.exists()) == (1, b"", False), f"{refusal} of {arguments}: {status}, {output}, {errors}")
+        check(errors.startswith(f"{path}: {refusal}\nReason "), f"{refusal} of {arguments}: {errors}")
+        check(all(phrase in errors for phrase in phrases), f"{refusal} of {arguments}: {errors}")
+        equal("begins as a text" in errors, number >= len(NOT_MADE) - 2, f"that it is a text: {errors}")
+        status, output, errors = change("-", *arguments, stdin=file)
+        check((status, output) == (1, b"") and errors.startswith(f"standard input: {refusal}\n"), f"{arguments}: {errors}")
+    changes_not_asked(folder)
+    changes_not_believed(folder)
+    own_file(folder)
+
+
+def changes_not_asked(folder):
+    """What is not put to the library, and that it is missing."""
+    path, new = folder / "shop.job", folder / "new.job"
+    path.write_bytes(SHOP)
+    for arguments, phrase in ((["order", "oak"], "LIST: no wish is named"), (["wishes", "a"], "ARTICLE: 2 articles are named")):
+        status, output, errors = change(path, *arguments, "-o", new, library=None)
+        check((status, output, new.exists()) == (1, b"", False) and errors.startswith(f"{path}, {phrase}"), f"{arguments}: {errors}")
+    status, output, errors = change(path, "order", "x, " * 30 + "\x1b[2J", library=None)
+    check((status, output) == (1, b"") and errors.endswith(f"{path}: 11 further faults are not shown\n"), f"many faults: {errors}")
+    check(all(line.isprintable() for line in errors.splitlines()), f"what does not print: {errors!r}")
+    for (what, article, value), phrase in TOO_LARGE:
+        arguments = [argument for argument in (what, article, value) if argument is not None]
+        status, output, errors = change(path, *arguments, "-o", new, library=None)
+        check((status, output, new.exists()) == (2, b"", False) and errors.startswith(f"tools/job: {phrase}"), f"{arguments}: {errors}")
+    real, kitchen.library_path = kitchen.library_path, lambda: None
+    try:
+        for file in (SHOP, F, KITCHEN.encode()):
+            path.write_bytes(file)
+            expected = (1, b"", "there is no new file: libkitchen.so is missing; build it with tools/library\n")
+            equal(quick("change", path, "order", "#0", "-o", new), expected, "without a library")
+            check(not new.exists(), "nothing is written without a library")
+    finally:
+        kitchen.library_path = real
+
+
+def changes_not_believed(folder):
+    """Libraries that give other bytes, or another reason than the rules: there is no answer, and nothing is written."""
+    path, new = folder / "shop.job", folder / "new.job"
+    right, other, refusal = second_saved(SHOP, "order", {2}), second_saved(SHOP, "order", {1}), kitchen.Refused
+    for file, arguments, answers in (
+        (SHOP, ["order", "#2"], [SHOP, right[:-1], right + b"\0", b"", F, A, other, refusal(6, 3), refusal(9, 0), refusal(14, 0)]),
+        (SHOP, ["order", "#3"], [SHOP, right, refusal(7, 3), refusal(2, len(SHOP)), refusal(99, 0), refusal(0, 0)]),
+        (SHOP, ["name", "#9"], [SHOP, refusal(9, 1), refusal(6, 0), refusal(16, 0)]),
+        (SHOP[:-1], ["order", "#2"], [SHOP, SHOP[:-1], right, refusal(2, 3), refusal(1, 0), refusal(9, 0)]),
+        (F, ["order", "#2"], [F, SHOP, refusal(1, 1), refusal(2, 0)]),
+    ):
+        path.write_bytes(file)
+        for answer in answers:
+            status, output, errors = change(path, *arguments, "-o", new, library=says(answer))
+            check((status, output, new.exists()) == (1, b"", False), f"{answer!r} for {arguments}: {status}, {output}, {errors}")
+            what = "the new file is " if isinstance(answer, bytes) else f"it is {answer}, and the rules have no such reason"
+            check(errors.startswith(f"this cannot be what the library gives for this change: {what}"), f"{answer!r}: {errors}")
+            part = str(kitchen.Reader(answer).refusal or "not the old job") if isinstance(answer, bytes) else ""
+            check(part in errors, f"{answer!r}: {errors}")
+    path.write_bytes(SHOP)
+    equal(change(path, "order", "#2", library=says(right)), (0, right, ""), "the right answer")
+
+
+def own_file(folder):
+    """A job file is not overwritten, however it is named."""
+    path, link, hard = folder / "own.job", folder / "link.job", folder / "hard.job"
+    path.write_bytes(SHOP)
+    link.symlink_to(path)
+    hard.hardlink_to(path)
+    for source, target in ((path, path), (path, link), (link, path), (path, hard), (path, folder / "." / "own.job")):
+        status, output, errors = change(source, "order", "#0", "-o", target)
+        check((status, output) == (1, b"") and "is the job file itself; expected another file" in errors, f"{source} onto {target}: {errors}")
+    equal(path.read_bytes(), SHOP, "the job file is as it was")
+
+
+# ---- streams
 
 
 def standard_input(folder):
@@ -1073,7 +1443,9 @@ def on_terminal(*arguments):
 
 
 def terminals(folder):
-    for arguments in (("write", SMALL_TEXT), ("write", SMALL_TEXT, "-o", "-"), ("write", SMALL_TEXT, "--order", "")):
+    to_it = [("write", SMALL_TEXT), ("write", SMALL_TEXT, "-o", "-"), ("write", SMALL_TEXT, "--order", "")]
+    to_it += [("change", folder / "A.job", "order"), ("change", folder / "missing.job", "name", "#0", "-o", "-")]
+    for arguments in to_it:
         status, came, errors = on_terminal(*arguments)
         check((status, came) == (2, b"") and "expected -o FILE or a pipe" in errors, f"{arguments}: {came!r} {errors}")
     target = folder / "terminal.job"
@@ -1100,6 +1472,10 @@ def closed_streams(folder):
         (("read", "-"), "<&-", "standard input is closed"),
         (("show", "-"), "<&-", "standard input is closed"),
         (("explain", "6", "-"), "<&-", "standard input is closed"),
+        (("change", "-", "order"), "<&-", "standard input is closed"),
+        (("change", "/dev/zero", "order"), "", "/dev/zero: it has more than 4,000,000 bytes"),
+        (("change", folder, "name", "#0"), "", f"{folder}: Is a directory"),
+        (("change", folder / "missing.job", "order"), "", "missing.job: No such file or directory"),
         (("show", "-"), "0>/dev/null", "standard input: Bad file descriptor"),
         (("show", "-"), "</dev/zero", "standard input: it has more than 4,000,000 bytes"),
         (("show", "/dev/zero"), "", "/dev/zero: it has more than 4,000,000 bytes"),
@@ -1178,8 +1554,11 @@ COMMANDS = {
     "write": ("TEXT", "--order LIST", "-o FILE", "- for standard input", "standard output"),
     "read": ("FILE", "- for standard input"),
     "show": ("FILE", "- for standard input"),
+    "change": ("[-o NEW] FILE WHAT", "- for standard input", "standard output", "needs tools/library", *changing.CHANGES.values()),
     "explain": ("NUMBER", "[PLACE] [FILE]", "- for standard input"),
 }
+# The arguments of each change.
+CHANGES = {"order": "[LIST]", "wishes": "ARTICLE [LIST]", "clashes": "ARTICLE [LIST]", "name": "ARTICLE [NAME]"}
 # Calls that cannot be, and a part of what is said.
 MISUSED = [
     (("bogus",), "invalid choice: 'bogus'"),
@@ -1208,6 +1587,18 @@ MISUSED = [
     (("ask", "a", "--next", "many"), "'many' is no count"),
     (("ask", "-", "-"), "standard input can be read only once"),
     (("advise", "a", "b"), "unrecognized arguments: b"),
+    (("change",), "required: FILE, WHAT"),
+    (("change", "a"), "required: WHAT"),
+    (("change", "a", "orders", "b"), "invalid choice: 'orders'"),
+    (("change", "a", "wish"), "invalid choice: 'wish'"),
+    (("change", "a", "order", "b", "c"), "unrecognized arguments: c"),
+    (("change", "a", "wishes"), "required: ARTICLE"),
+    (("change", "a", "name", "b", "c", "d"), "unrecognized arguments: d"),
+    (("change", "a", "order", "-o"), "argument -o: expected one argument"),
+    (("change", "a", "order", "--order", "b"), "unrecognized arguments: --order"),
+    (("change", "a", "order", os.fsdecode(b"\xff")), "argument LIST: it is not in UTF-8; expected UTF-8"),
+    (("change", "a", "name", os.fsdecode(b"\xff"), "b"), "argument ARTICLE: it is not in UTF-8"),
+    (("change", "a", "name", "b", os.fsdecode(b"\xe4")), "argument NAME: it is not in UTF-8"),
 ]
 
 
@@ -1224,6 +1615,12 @@ def usage(folder):
         text = " ".join(output.decode().split())
         check((status, errors) == (0, "") and f"usage: tools/job {command} " in text, f"{command} --help: {errors}")
         check(all(part in text for part in parts), f"{command} --help says its arguments: {text}")
+    for what, rest in CHANGES.items():
+        status, output, errors = quick("change", "x", what, "--help")
+        text = " ".join(output.decode().split())
+        usage = f"usage: tools/job change FILE {what} [-h] [-o NEW] {rest} {changing.CHANGES[what]} "
+        check((status, errors) == (0, "") and text.startswith(usage), f"change x {what} --help: {text} {errors}")
+    equal(list(CHANGES), list(changing.CHANGES), "the changes that there are")
     for arguments, phrase in MISUSED:
         status, output, errors = quick(*arguments)
         check((status, output) == (2, b"") and phrase in errors, f"{arguments}: status {status}, {output!r}, {errors}")
@@ -1264,12 +1661,13 @@ def helpful(folder):
         f"a file {commands.LARGEST:,} bytes, be it a text or a job file",
         "Of several kitchens the one with the smallest number comes, so what comes first in the text is preferred.",
         "0 there is a kitchen, there is a plan; or what was asked for is done",
-        "1 a text or file is at fault, or there is no answer",
+        "1 a text, a file or a change is at fault, or there is no answer",
         "2 the tool was called in another way than it can be",
         '3 there is none: "no such kitchen", "no such plan"',
         "Of several texts: 1 if one failed, else 3 if one has none.",
         " ".join(guide.CHOICE_EXAMPLE.split()),
         " ".join(guide.FITTING_EXAMPLE.split()),
+        guide.CHANGE_EXAMPLE.strip(),
     ):
         check(phrase in text, f"--help says: {phrase}")
     limits = [kitchen.CHOICE.limit, kitchen.FITTING.limit, kitchen.FITTING.horizon, kitchen.LONGEST_NAME]
@@ -1285,6 +1683,11 @@ def helpful(folder):
     equal(answer(job_of(guide.CHOICE_EXAMPLE), "refused 14 at 0\n"), kitchen.NoSelection, "no kitchen for the example")
     plan = kitchen.Plan([{0}, {1}])
     equal(answer(job_of(guide.FITTING_EXAMPLE), "rounds 2\n1: 0\n2: 1\n"), plan, "a plan for the example")
+    (folder / "larder.job").write_bytes(written(guide.CHOICE_EXAMPLE))
+    _, _, path, *rest, target = shlex.split(guide.CHANGE_EXAMPLE)
+    equal(change(folder / path, *rest, folder / target), (0, b"", ""), "the example of a change")
+    example = guide.CHOICE_EXAMPLE.replace("wishes: corner larder\n#", "wishes: #0, #1\n#")
+    check(example != guide.CHOICE_EXAMPLE and (folder / target).read_bytes() == written(example), "what the example changes")
 
 
 def tried(part, *arguments):
@@ -1298,11 +1701,11 @@ def tried(part, *arguments):
 def main():
     with tempfile.TemporaryDirectory() as name:
         folder = pathlib.Path(name).resolve()
-        for part in (samples, texts_with_faults, odd_texts, keyboards, warnings, orders, files_refused, explanations):
+        for part in (samples, texts_with_faults, odd_texts, keyboards, warnings, orders, files_refused, explanations, changes):
             tried(part, folder)
         for part in (texts_in_order, comments, large_texts, blanks, there_and_back):
             tried(part)
-        for part in (host_jobs, host_limits, answers, printed_junk, choice_rules, plan_rules):
+        for part in (host_jobs, host_limits, answers, printed_junk, choice_rules, plan_rules, meant, changes_tried):
             tried(part)
         for part in (host_rest, standard_input, own_text, terminals, closed_streams, rights, ended, usage, locales, helpful):
             tried(part, folder)

@@ -8,14 +8,14 @@ import shlex
 import signal
 import sys
 
-from kitchen import CHOICE, VERSION, NoPlan, NoSelection, Reader, written
-from showroom import advising, telling
+from kitchen import CHOICE, FITTING, VERSION, NoPlan, NoSelection, Reader, Refused, written
+from showroom import advising, changing, telling
 from showroom.asking import Failed, asked, further
 from showroom.files import job_table, job_text
 from showroom.guide import GUIDE, SUMMARY
 from showroom.page import page
 from showroom.reasons import REASONS, explained
-from showroom.texts import NUMBER, Faulty, is_fitting, remarks, stated
+from showroom.texts import NUMBER, Faulty, kind_of, remarks, stated
 from showroom.words import brief, clean, printed
 
 DONE, FAILED, MISUSED, NONE = 0, 1, 2, 3
@@ -74,13 +74,13 @@ def note(message):
                 out.write(clean(message).encode())
 
 
-def put(output, target, source):
-    """Writes to a file, or to standard output if none is named. The text itself is not overwritten."""
+def put(output, target, source, what="text"):
+    """Writes to a file, or to standard output if none is named. The text or file itself is not overwritten."""
     if target is None:
         return emit(output)
     with naming(shown(target)):
         if os.path.exists(target) and os.path.samestat(os.stat(0 if source == STANDARD else source), os.stat(target)):
-            raise Trouble(f"{shown(target)} is the text itself; expected another file after -o")
+            raise Trouble(f"{shown(target)} is the {what} itself; expected another file after -o")
         with open(target, "wb") as out:
             out.write(output)
 
@@ -99,9 +99,19 @@ def accepted(path):
     """The job that a file states. A refusal is put into words."""
     reader = Reader(contents(path))
     if reader.refusal:
-        number, place = reader.refusal.number, reader.refusal.place
-        raise Trouble(f"{shown(path)}: refused {number} at {place}\n" + explained(number, place, reader))
+        raise refused(path, reader.refusal, explained(reader.refusal.number, reader.refusal.place, reader))
     return reader.job
+
+
+def refused(path, refusal, reason):
+    """A refusal, with its reason in words."""
+    return Trouble(f"{shown(path)}: {refusal}\n{reason}")
+
+
+def not_for_terminal(options):
+    """A job file is not written to a terminal."""
+    if options.output is None and sys.stdout is not None and sys.stdout.isatty():
+        raise Misuse("a job file is no text for a terminal; expected -o FILE or a pipe")
 
 
 def lines_of(lines):
@@ -118,7 +128,7 @@ def status_of(answer):
 def suits(path, text, options, *words):
     """A fitting has no order and no further kitchens."""
     for word in words:
-        if getattr(options, word) is not None and is_fitting(text):
+        if getattr(options, word) is not None and kind_of(text) is FITTING:
             raise Misuse(f"{shown(path)} is a fitting, which --{word} does not go with")
     return text
 
@@ -203,8 +213,7 @@ def draw(options):
 
 
 def write(options):
-    if options.output is None and sys.stdout is not None and sys.stdout.isatty():
-        raise Misuse("a job file is no text for a terminal; expected -o FILE or a pipe")
+    not_for_terminal(options)
     put(written(one_text(options).job), options.output, options.text)
     return DONE
 
@@ -216,6 +225,21 @@ def read(options):
 
 def show(options):
     emit(job_table(accepted(options.file)).encode())
+    return DONE
+
+
+def change(options):
+    not_for_terminal(options)
+    file = contents(options.file)
+    try:
+        new = changing.saved(file, changing.wanted(file, options.what, options.article, options.value))
+    except changing.Beyond as beyond:
+        raise Misuse(str(beyond)) from None
+    except Faulty as faulty:
+        raise Trouble(remarks(shown(options.file), b"", faulty.faults)) from None
+    except Refused as refusal:
+        raise refused(options.file, refusal, changing.reason(file, refusal)) from None
+    put(new, options.output, options.file, "job file")
     return DONE
 
 
@@ -245,12 +269,12 @@ class Arguments(argparse.ArgumentParser):
         raise Misuse(f"{message}\n{self.format_usage().rstrip()}")
 
 
-def listed(text):
-    """A list in UTF-8, whatever the locale took its bytes for."""
+def in_utf8(text):
+    """A list or a name in UTF-8, whatever the locale took its bytes for."""
     try:
         return os.fsencode(text).decode()
     except UnicodeDecodeError:
-        raise argparse.ArgumentTypeError("the list is not in UTF-8; expected UTF-8") from None
+        raise argparse.ArgumentTypeError("it is not in UTF-8; expected UTF-8") from None
 
 
 def target(path):
@@ -282,7 +306,7 @@ def parser():
 
     def takes_order(part, whose):
         example = 'as "corner larder, no handles"'
-        part.add_argument("--order", metavar="LIST", type=listed, help=f"an order in place of the {whose} own, {example}")
+        part.add_argument("--order", metavar="LIST", type=in_utf8, help=f"an order in place of the {whose} own, {example}")
 
     def takes_target(part, what):
         part.add_argument("-o", dest="output", metavar="FILE", type=target, help=f"{what}; without it, standard output")
@@ -301,11 +325,28 @@ def parser():
     takes_target(part, "the job file")
     for name, action, sentence in (("read", read, "a text from a job file"), ("show", show, "a job file as a table")):
         command(name, action, sentence).add_argument("file", metavar="FILE", help="the job file, - for standard input")
+    takes_change(command("change", change, "a choice file with one change, as a new job file (needs tools/library)"))
     part = command("explain", explain, "what a refusal means, and what is at its place")
     part.add_argument("number", metavar="NUMBER", help="the number of the reason")
     part.add_argument("place", metavar="PLACE", nargs="?", help="its place")
     part.add_argument("file", metavar="FILE", nargs="?", help="the job file that was refused, - for standard input")
     return top
+
+
+def takes_change(part):
+    """What is changed is a command in turn. The file after -o may be named before it or after it."""
+    new = {"dest": "output", "metavar": "NEW", "type": target, "help": "the new job file; without it, standard output"}
+    part.add_argument("-o", **new)
+    part.add_argument("file", metavar="FILE", help="the job file, - for standard input")
+    changes = part.add_subparsers(metavar="WHAT", dest="what", required=True)
+    for what, sentence in changing.CHANGES.items():
+        one = changes.add_parser(what, help=sentence, description=sentence, allow_abbrev=False)
+        one.set_defaults(article=None)
+        if what != "order":
+            one.add_argument("article", metavar="ARTICLE", type=in_utf8, help='the article, by its name or as "#3"')
+        metavar, form = ("NAME", "the name") if what == "name" else ("LIST", "a list, as in texts")
+        one.add_argument("value", metavar=metavar, nargs="?", type=in_utf8, help=f"{form}; without it, none")
+        one.add_argument("-o", default=argparse.SUPPRESS, **new)
 
 
 def words_of(trouble, path=None):

@@ -26,6 +26,9 @@ step Fit the worktop
   needs: units hung
   gives: worktop fitted
 """
+CHANGE_EXAMPLE = """\
+tools/job change larder.job wishes "Larder unit 60" "#0, #1" -o new.job
+"""
 SUMMARY = """\
 From a text to an answer: a kitchen for an order, or the rounds of its fitting, by the proved program `kitchen`.
 """
@@ -66,6 +69,18 @@ How a text is written:
   byte E4. A letter with a mark may be typed as one character or as two: a list finds the name either way.
 - A comment is a line of its own that begins with `#` and has no digit after it.
 
+How a job file is changed:
+  `tools/job change` makes a job file from another, which stays as it is. The two differ in one thing: the order, or the
+  wishes, the clashes or the name of one article. The proved library makes the new file: tools/library
+  builds it, once, and a folder from `make dist` has it. An example, on what `tools/job write larder.txt -o larder.job` makes of the first text above:
+
+{indented(indented(CHANGE_EXAMPLE))}
+
+  Lists and names are written as in a text; in a shell, `#` has to be quoted. A wish has its number, as `#1`, or the name
+  that `tools/job read` gives it, `wish 1`; an article has its number, or its name in the file. If the list or the name is
+  empty or left out, the order becomes empty, or the article is left without wishes, without clashes or without a name.
+  `tools/job read new.job | tools/job ask -` asks for the kitchen of the new file.
+
 With --json each text has one line:
   text, kind, and answer: "kitchen", "no such kitchen", "plan", "no such plan" or "error"; a kitchen has articles, each
   with number, name and wishes, and set_aside (and further, with --next); a plan has rounds; an error has a message.
@@ -78,7 +93,8 @@ Limits:
 
 Status:
   0  there is a kitchen, there is a plan; or what was asked for is done
-  1  a text or file is at fault, or there is no answer: kitchen is missing, was ended, or printed what cannot be its answer
+  1  a text, a file or a change is at fault, or there is no answer: kitchen or the library is missing, was ended, or gave
+     what cannot be its answer
   2  the tool was called in another way than it can be
   3  there is none: "no such kitchen", "no such plan"
   Of several texts: 1 if one failed, else 3 if one has none.

@@ -58,15 +58,15 @@ REASONS = {
         "The count of articles or steps is too small, or something was added to the file.",
     ),
     9: (
-        "a layer number is out of range",
+        "a layer number is out of range, or there is no such article to change",
         None,
-        "Fact layers go from 0 to the horizon, and round layers from 1 to the horizon.",
+        "Fact layers go from 0 to the horizon, and round layers from 1 to the horizon. The first article is number 0.",
     ),
     10: (
         "a lent buffer is too short",
         None,
         "A partition has a byte for each article, a plan a word for each round of the horizon, a fact layer 32 words, "
-        "and a round layer 64.",
+        "and a round layer 64; a file that is saved has its own length, at most 3,211 bytes.",
     ),
     11: (
         "a lent partition is false: an article has a group byte that is not below n, or is in one group with an article "

@@ -28,6 +28,7 @@ OPENING = re.compile(rf"({'|'.join(OPENINGS)})(?:{BLANK}+(.*))?")
 ALMOST = re.compile(rf"({'|'.join(WORDS)})(?:{BLANK}*:|{BLANK}|$){BLANK}*(.*)", re.IGNORECASE)
 OWN_LINE = "a comment has a line of its own"
 UNSEEN = "the line has a character that does not print"
+LAST_COMMA = "the list ends with a comma; expected a further name"
 
 # What a text states: the job, the names of its wishes or facts, and warnings, pairs of a line number and a message.
 Text = namedtuple("Text", "job names warnings")
@@ -100,15 +101,74 @@ class Names:
         return known[near[0]] if near else None
 
 
-class Draft:
+class Listing:
+    """How lists name things, and the faults found so far."""
+
+    def __init__(self, kind):
+        self.kind, self.faults = kind, []
+
+    def fault(self, line, message, text=""):
+        """Notes a fault. If the text in question has a `#`, it says where comments belong; and that something is unseen."""
+        message += f"; {OWN_LINE}" if "#" in text else ""
+        self.faults.append((line, message + ("" if text.isprintable() else f"; {UNSEEN}")))
+
+    def name(self, line, text):
+        """The bytes of a name; None if it is faulty."""
+        if not text:
+            return self.fault(line, "a name is missing in front of a comma; expected one")
+        if re.fullmatch(QUOTED, text):
+            return self.unquoted(line, text[1:-1])
+        if '"' in text:
+            form = 'expected the whole name in quotation marks, with \\" for a mark inside'
+            return self.fault(line, f"{brief(text)} has a quotation mark; {form}", text)
+        if "#" in text:
+            form = f"expected the name as {cited(text.encode())}, with the marks"
+            return self.fault(line, f"{brief(text)} has a #; {form}", text)
+        if not text.isprintable():
+            form = f"expected the name without it, or as {cited(text.encode())}"
+            return self.fault(line, f"the name has a character that does not print; {form}")
+        return text.encode()
+
+    def unquoted(self, line, text):
+        if not text:
+            return self.fault(line, "the name is empty; expected at least 1 byte, or no name at all")
+        wrong = [found for found in ESCAPE.finditer(text.encode()) if not found[1] and not found[2]]
+        if wrong:
+            return self.fault(line, 'a backslash stands alone; expected \\", \\\\ or \\x and two digits from 0 to F')
+        return ESCAPE.sub(lambda found: found[1] or bytes([int(found[2], 16)]), text.encode())
+
+    def bearer(self, line, name, what, names, bound, numbered):
+        """The number of what has this name; None if that is nothing, or several. Those below the bound are hinted at."""
+        numbers = names.found(name)
+        if len(numbers) == 1:
+            return numbers[0]
+        if numbers:
+            several = self.kind.members if what == self.kind.member else self.kind.records
+            which = series([f"#{number}" for number in numbers], "or")
+            return self.fault(line, f"{len(numbers)} {several} are named {cited(name)}; expected a number, {which}")
+        worthwhile = len(self.faults) < MOST_FAULTS and len(name) <= LONGEST_HINT
+        near = names.near(name, bound) if worthwhile else None
+        hint = f" (near: {cited(near)})" if near else ""
+        self.fault(line, f"no {what} is named {cited(name)}; expected the name of one, or {numbered}{hint}")
+
+    def include(self, line, text, number, found):
+        """Adds what an item means to a set; twice is a fault. Gives the item as messages show it."""
+        shown = brief(text if text[0] in '"#' else f'"{text}"')
+        if number in found:
+            self.fault(line, f"{shown} is in the list twice; expected once")
+        found.add(number)
+        return shown
+
+
+class Draft(Listing):
     """What is in a text, and the faults found in it so far."""
 
     def __init__(self, lines, order=None):
         """Takes pairs of a line number and a line, and a list in place of the text's order."""
-        self.lines, self.faults, self.head, self.entries = lines, [], {}, []
-        self.open = None  # a field that goes on in the next line, and the line of its last comma
         words = [re.match("[a-z]*", text.lower())[0] for _, text in lines]
-        self.kind = next((WORDS[word] for word in words if word in WORDS), CHOICE)
+        super().__init__(next((WORDS[word] for word in words if word in WORDS), CHOICE))
+        self.lines, self.head, self.entries = lines, {}, []
+        self.open = None  # a field that goes on in the next line, and the line of its last comma
         self.first, text = lines[0] if lines else (1, "")
         if text != self.kind.word:
             self.fault(self.first, 'expected "choice" or "fitting" as the first line', text)
@@ -121,11 +181,6 @@ class Draft:
             if order.strip(BLANKS):
                 self.extend(self.head["order"], ORDER, order.strip(BLANKS))
             self.close()
-
-    def fault(self, line, message, text=""):
-        """Notes a fault. If the text in question has a `#`, it says where comments belong; and that something is unseen."""
-        message += f"; {OWN_LINE}" if "#" in text else ""
-        self.faults.append((line, message + ("" if text.isprintable() else f"; {UNSEEN}")))
 
     def stop(self, line, message):
         """What follows is not looked at: it would only be misread."""
@@ -159,8 +214,7 @@ class Draft:
         """No list goes on any more."""
         if self.open:
             line = self.open[1]
-            where = "" if line == ORDER else ", in this line or the next"
-            self.fault(line, f"the list ends with a comma; expected a further name{where}")
+            self.fault(line, LAST_COMMA + ("" if line == ORDER else ", in this line or the next"))
         self.open = None
 
     def head_words(self):
@@ -205,31 +259,6 @@ class Draft:
 
     # -- names and numbers
 
-    def name(self, line, text):
-        """The bytes of a name; None if it is faulty."""
-        if not text:
-            return self.fault(line, "a name is missing in front of a comma; expected one")
-        if re.fullmatch(QUOTED, text):
-            return self.unquoted(line, text[1:-1])
-        if '"' in text:
-            form = 'expected the whole name in quotation marks, with \\" for a mark inside'
-            return self.fault(line, f"{brief(text)} has a quotation mark; {form}", text)
-        if "#" in text:
-            form = f"expected the name as {cited(text.encode())}, with the marks"
-            return self.fault(line, f"{brief(text)} has a #; {form}", text)
-        if not text.isprintable():
-            form = f"expected the name without it, or as {cited(text.encode())}"
-            return self.fault(line, f"the name has a character that does not print; {form}")
-        return text.encode()
-
-    def unquoted(self, line, text):
-        if not text:
-            return self.fault(line, "the name is empty; expected at least 1 byte, or no name at all")
-        wrong = [found for found in ESCAPE.finditer(text.encode()) if not found[1] and not found[2]]
-        if wrong:
-            return self.fault(line, 'a backslash stands alone; expected \\", \\\\ or \\x and two digits from 0 to F')
-        return ESCAPE.sub(lambda found: found[1] or bytes([int(found[2], 16)]), text.encode())
-
     def naming(self):
         """The names that the head gives to wishes or facts, in their order; None if the head has no such list."""
         field = self.head.get(self.kind.members)
@@ -265,19 +294,7 @@ class Draft:
             behind = "" if re.fullmatch("#[0-9]+", text) else text
             return self.fault(line, f"there is no {what} {brief(text)}; expected {span}", behind)
         name = self.name(line, text)
-        if name is None:
-            return None
-        numbers = names.found(name)
-        if len(numbers) == 1:
-            return numbers[0]
-        if numbers:
-            several = self.kind.members if what == self.kind.member else self.kind.records
-            which = series([f"#{number}" for number in numbers], "or")
-            return self.fault(line, f"{len(numbers)} {several} are named {cited(name)}; expected a number, {which}")
-        worthwhile = len(self.faults) < MOST_FAULTS and len(name) <= LONGEST_HINT
-        near = names.near(name, bound) if worthwhile else None
-        hint = f" (near: {cited(near)})" if near else ""
-        self.fault(line, f"no {what} is named {cited(name)}; expected the name of one, or {span}{hint}")
+        return None if name is None else self.bearer(line, name, what, names, bound, span)
 
     def members(self, field, what, names, own=None):
         """The set that a field states. What an article clashes with has to be lower than its own number."""
@@ -286,15 +303,12 @@ class Draft:
             number = self.reference(line, text, what, names, bound)
             if number is None:
                 continue
-            shown = brief(text if text[0] in '"#' else f'"{text}"')
-            if number in found:
-                self.fault(line, f"{shown} is in the list twice; expected once")
+            shown = self.include(line, text, number, found)
             if number == own:
                 self.fault(line, f"the {what} clashes with itself; expected {self.kind.records} above it")
             elif number > bound:
                 above = f"expected {self.kind.records} above it: write the clash there"
                 self.fault(line, f"{shown} is below this {what}; {above}")
-            found.add(number)
         return found
 
     # -- the job
@@ -361,18 +375,19 @@ def stated(text, order=None):
     return Draft(lines, order).text()
 
 
-def is_fitting(text):
-    """Whether a text says of itself that it is a fitting, faulty or not."""
+def kind_of(text):
+    """The kind that a text says of itself, faulty or not; None if it says none."""
     lines = (uncommented(line.decode("utf-8", "replace")) for line in byte_lines(text))
-    return next(filter(None, lines), "") == FITTING.word
+    first = next(filter(None, lines), "")
+    return next((kind for kind in KINDS if kind.word == first), None)
 
 
 def remarks(path, text, found, word=""):
-    """Faults or warnings of a text, each with its place and its line."""
+    """Faults or warnings of a text, each with its place and its line. An argument has no line, but a name."""
     lines, report = byte_lines(text) or [b""], []
     for number, message in found[:MOST_FAULTS]:
-        if number == ORDER:
-            report.append(f"{path}, --order: {word}{message}")
+        if number == ORDER or isinstance(number, str):
+            report.append(f"{path}, {number or '--order'}: {word}{message}")
             continue
         report.append(f"{path}:{number}: {word}{message}")
         start = lines[number - 1].strip()[:1000].decode("utf-8", "replace")

@@ -6,7 +6,7 @@ use mathlib.Core.List.{List}
 use mathlib.Core.Option.{Option, none, some}
 use Prim.Native.Nat.{ℕ, _≤_}
 use native.Mathlib.Omega.{arith}
-use lib.Dec.{ltb}
+use lib.Dec.{leb, ltb}
 use lib.ListN.{length, getD}
 use borrow.Author.Tests.{ltb-false}
 use Rattle.sets.proofs.Ranges.{neither}
@@ -26,7 +26,7 @@ use Rattle.network.specs.Groups.{firstMisplaced}
 use Rattle.filter.specs.Filter.{firstBad}
 use Rattle.network.proofs.ListedLaws.{padded-network}
 use Rattle.arguments.specs.Answers.{Answer, refusal, value, unless, unlessAt, passed, afterTests}
-use Rattle.arguments.specs.Tests.{roomTest, layerTest, groupsTest, goalsTest}
+use Rattle.arguments.specs.Tests.{articleTest, roomTest, layerTest, groupsTest, goalsTest}
 use Rattle.arguments.specs.Meaning.{verdictOf, networkIn}
 
 -- ---- what a call answers
@@ -52,6 +52,9 @@ unless-passed false reason t h k = (refl, h)
 at-passed : (place : Option ℕ) (reason : Reason) (t : Answer (Unit {0})) {v : Verdict} → v ≡ verdictOf (unlessAt place reason t) → v ≡ Verdict.Accepted → place ≡ none
 at-passed none reason t h k = refl
 at-passed (some i) reason t h k = let z : _≡_ {A = ℕ} 0 1 = cc in absurd (omega arith)
+
+pub article-passed : (article articles : ℕ) {v : Verdict} → v ≡ verdictOf (articleTest article articles) → v ≡ Verdict.Accepted → leb articles article ≡ false
+article-passed article articles h k = unless-passed (leb articles article) OutOfRange passed h k .0
 
 pub room-passed : (len size : ℕ) {v : Verdict} → v ≡ verdictOf (roomTest len size) → v ≡ Verdict.Accepted → size ≤ len
 room-passed len size h k = ltb-false len size (unless-passed (ltb len size) ShortBuffer passed h k .0)

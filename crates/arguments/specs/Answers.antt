@@ -1,5 +1,5 @@
 -- What a call answers: a refusal with reason and place, or a value (docs/RULES.md, "Reasons to turn a call down"). The file is tested first,
--- then the arguments in the order of the reasons' numbers; the first fault ends the call.
+-- then the arguments in the order of the reasons' numbers (saving tests the new file between 9 and 10); the first fault ends the call.
 use mathlib.Core.Bool.{Bool, true, false}
 use mathlib.Core.List.{List, _++_}
 use mathlib.Core.Option.{Option, none, some}
@@ -18,6 +18,11 @@ pub data Answer (A : Type 0) : Type 0 where
 abbrev pub onJob : {A B : Type 0} → Got A → (A → Answer B) → Answer B
 onJob (refused reason place) call = refusal reason place
 onJob (got job end) call = call job
+
+-- what comes after a value; a refusal ends the call
+abbrev pub onValue : {A B : Type 0} → Answer A → (A → Answer B) → Answer B
+onValue (refusal reason place) call = refusal reason place
+onValue (value x) call = call x
 
 -- a test of an argument: if it fails, its reason at place 0
 abbrev pub unless : {A : Type 0} → Bool → Reason → Answer A → Answer A

@@ -2,13 +2,17 @@
 use mathlib.Core.Bool.{_||_}
 use mathlib.Core.List.{List}
 use Prim.Native.Nat.{ℕ}
-use lib.Dec.{ltb}
+use lib.Dec.{leb, ltb}
 use lib.ListN.{length, getD}
 use Rattle.reading.specs.declared.Reason.the-variants.{OutOfRange, ShortBuffer, FalsePartition, LiveOutsideFile, BadGoal}
 use Rattle.network.specs.Network.{Network}
 use Rattle.network.specs.Groups.{firstMisplaced}
 use Rattle.filter.specs.Filter.{outside, badGoal, firstBad}
 use Rattle.arguments.specs.Answers.{Answer, unless, unlessAt, passed}
+
+-- 9: an article's number is below the count of articles
+abbrev pub articleTest : ℕ → ℕ → Answer (Unit {0})
+articleTest article articles = unless (leb articles article) OutOfRange passed
 
 -- 10: a buffer of this length has at least `size` elements
 abbrev pub roomTest : ℕ → ℕ → Answer (Unit {0})

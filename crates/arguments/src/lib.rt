@@ -4,7 +4,7 @@ ghost use mathlib.Core.Path.{_≡_};
 ghost use mathlib.Core.Bool.{not, _||_};
 ghost use Prim.Native.Nat.{_≤_};
 ghost use lib.Dec.{ltb};
-ghost use Rattle.arguments.specs.Tests.{roomTest, layerTest, groupsTest, passTest, goalsTest};
+ghost use Rattle.arguments.specs.Tests.{articleTest, roomTest, layerTest, groupsTest, passTest, goalsTest};
 ghost use Rattle.arguments.specs.Meaning.{verdictOf, networkIn};
 
 pub mod written;
@@ -16,6 +16,16 @@ use jobfile::Verdict;
 use network::lent;
 use network::lent::Lent;
 use reading::Reason;
+
+// Whether there is an article of this number.
+pub fn article(article: usize, articles: usize) -> Verdict
+    ensures { λ r. ⌜ r ≡ verdictOf (articleTest article articles) ⌝ }
+{
+    if articles <= article {
+        return Verdict::Refused(reading::refusal_at(Reason::OutOfRange, 0));
+    }
+    Verdict::Accepted
+}
 
 // Whether a buffer of this length has at least `size` elements.
 pub fn room(len: usize, size: usize) -> Verdict

@@ -28,7 +28,8 @@ use Rattle.arguments.proofs.TestLaws.{test-refused, through, groups-passed, goa
 use Rattle.calls.specs.Partition.{partitionIn, partitionOf}
 use Rattle.calls.specs.Pass.{passIn, passOf}
 use Rattle.calls.specs.Choose.{Chosen, chosenOr, chooseIn, chooseOf, searched}
-use Rattle.calls.proofs.CallLaws.{choice-verdict, file-down, job-down, on-job, ChoiceRead}
+use Rattle.arguments.proofs.FileLaws.{choice-verdict, file-down, job-down, on-job}
+use Rattle.calls.proofs.CallLaws.{ChoiceRead}
 
 -- ---- the partition
 

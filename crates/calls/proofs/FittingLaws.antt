@@ -41,7 +41,8 @@ use Rattle.arguments.proofs.TestLaws.{test-refused, through}
 use Rattle.calls.specs.Layers.{factLayerOf, roundLayerOf}
 use Rattle.calls.specs.Plan.{planIn, planOf, WordsIn, Buffer}
 use Rattle.calls.proofs.ToldLaws.{values, number, number-said}
-use Rattle.calls.proofs.CallLaws.{fitting-verdict, file-down, job-down, on-job, FittingRead}
+use Rattle.arguments.proofs.FileLaws.{fitting-verdict, file-down, job-down, on-job}
+use Rattle.calls.proofs.CallLaws.{FittingRead}
 
 -- ---- the layers
 

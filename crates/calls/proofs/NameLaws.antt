@@ -30,7 +30,7 @@ use Rattle.names.proofs.SameLaws.{padded-same, search-cong}
 use Rattle.arguments.specs.Answers.{Answer, value, onJob, foundOr, Said, answered, said, refusalSaid}
 use Rattle.calls.specs.Find.{findIn, findOf}
 use Rattle.calls.specs.Compare.{compareOf}
-use Rattle.calls.proofs.CallLaws.{Taken, choice-verdict, names-verdict, as-taken, file-down, choice-down-as, job-down, faultIn, placeIn, takenIn}
+use Rattle.arguments.proofs.FileLaws.{Taken, choice-verdict, names-verdict, as-taken, file-down, choice-down-as, job-down, faultIn, placeIn, takenIn}
 use Rattle.calls.proofs.ToldLaws.{values, tested, test-said}
 
 -- ---- naming

@@ -30,7 +30,8 @@ use Rattle.arguments.specs.Tests.{groupsTest, goalsTest}
 use Rattle.arguments.specs.Meaning.{networkIn}
 use Rattle.calls.specs.Choose.{Chosen, chosenOr, searched}
 use Rattle.calls.specs.Offer.{offerIn, offerOf}
-use Rattle.calls.proofs.CallLaws.{choice-verdict, file-down, job-down, on-job, ChoiceRead}
+use Rattle.arguments.proofs.FileLaws.{choice-verdict, file-down, job-down, on-job}
+use Rattle.calls.proofs.CallLaws.{ChoiceRead}
 use Rattle.calls.proofs.ChoiceLaws.{searched-is}
 
 -- ---- what the program lends itself passes the tests

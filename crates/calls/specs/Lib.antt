@@ -8,3 +8,4 @@ pub mod Plan
 pub mod Name
 pub mod Find
 pub mod Compare
+pub mod Save

@@ -1,9 +1,10 @@
 // The open calls, in the order of docs/RULES.md. Each takes the bytes of a file and its other arguments
 // as they come: no call requires anything. The file is tested first, then the arguments in the order of
-// the reasons' numbers. A contract is one equation with specs/, for every input, which fixes the answer,
-// a refusal by its number and place, and the buffer that is lent; only the words of a plan are left
-// free, and `Buffer` says what holds of them.
+// the reasons' numbers; the calls that save test the new file between 9 and 10. A contract is one
+// equation with specs/, for every input, which fixes the answer, a refusal by its number and place, and
+// the buffer that is lent; only the words of a plan are left free, and `Buffer` says what holds of them.
 ghost use mathlib.Core.Path.{_≡_};
+ghost use Prim.Native.Nat.{_≤_};
 ghost use Rattle.reading.specs.declared.Reason.the-variants.{NameNotFound};
 ghost use Rattle.jobfile.specs.Read.{readJob, fittings};
 ghost use Rattle.names.specs.Meaning.{holderOf};
@@ -17,8 +18,13 @@ ghost use Rattle.calls.specs.Plan.{planOf, planTold, Buffer};
 ghost use Rattle.calls.specs.Name.{nameOf};
 ghost use Rattle.calls.specs.Find.{findOf, findTold};
 ghost use Rattle.calls.specs.Compare.{compareOf, compareTold};
+ghost use Rattle.changes.specs.Change.{newOrder, newWishes, newClashes, newName};
+ghost use Rattle.drafts.specs.Draft.{stored};
+ghost use Rattle.drafts.specs.Meaning.{pageBytes, draftBy};
+ghost use Rattle.calls.specs.Save.{saveOf, saveTold};
 use arguments::written;
 use choice::Choice;
+use drafts::Draft;
 use jobfile::Verdict;
 use names::Holder;
 use names::likeness;
@@ -300,4 +306,57 @@ pub fn compare(first: &[u8], second: &[u8]) -> CompareAnswer
         return CompareAnswer::Alike;
     }
     CompareAnswer::Unlike
+}
+
+// ---- saving
+
+// The length of the new file, or why none is written.
+pub enum SaveAnswer {
+    Saved(usize),
+    Refused(Refusal),
+}
+
+// What saving a draft into a buffer answers.
+fn saved(draft: Draft, to: &mut [u8]) -> SaveAnswer
+    requires { ⌜ draft .len ≤ pageBytes ⌝ }
+    ensures { λ r. ⌜ record { answer = saveTold r; buffer = now (to .exit) } ≡ stored (now (to .entry)) (draftBy draft) ⌝ }
+{
+    let len = draft.len;
+    let told = drafts::store(draft, to);
+    match told {
+        Verdict::Accepted => SaveAnswer::Saved(len),
+        Verdict::Refused(refusal) => SaveAnswer::Refused(refusal),
+    }
+}
+
+// The choice file with another order, at the front of a buffer. Later bytes stay as they are.
+pub fn save_order(file: &[u8], order: u64, to: &mut [u8]) -> SaveAnswer
+    ensures { λ r. ⌜ record { answer = saveTold r; buffer = now (to .exit) } ≡ saveOf (now (file .entry)) (newOrder order) (now (to .entry)) ⌝ }
+{
+    let draft = drafts::order(file, order);
+    saved(draft, to)
+}
+
+// The same with other wishes of an article; none drops them from its record.
+pub fn save_wishes(file: &[u8], article: usize, wishes: u64, to: &mut [u8]) -> SaveAnswer
+    ensures { λ r. ⌜ record { answer = saveTold r; buffer = now (to .exit) } ≡ saveOf (now (file .entry)) (newWishes article wishes) (now (to .entry)) ⌝ }
+{
+    let draft = drafts::wishes(file, article, wishes);
+    saved(draft, to)
+}
+
+// The same with other clashes of an article with lower ones; none drops them from its record.
+pub fn save_clashes(file: &[u8], article: usize, clashes: ArticleSet, to: &mut [u8]) -> SaveAnswer
+    ensures { λ r. ⌜ record { answer = saveTold r; buffer = now (to .exit) } ≡ saveOf (now (file .entry)) (newClashes article (clashes .bits)) (now (to .entry)) ⌝ }
+{
+    let draft = drafts::clashes(file, article, clashes.bits);
+    saved(draft, to)
+}
+
+// The same with another name of an article; an empty one drops it from its record.
+pub fn save_name(file: &[u8], article: usize, name: &[u8], to: &mut [u8]) -> SaveAnswer
+    ensures { λ r. ⌜ record { answer = saveTold r; buffer = now (to .exit) } ≡ saveOf (now (file .entry)) (newName article (now (name .entry))) (now (to .entry)) ⌝ }
+{
+    let draft = drafts::name(file, article, name);
+    saved(draft, to)
 }

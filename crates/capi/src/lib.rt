@@ -15,6 +15,8 @@ ghost use Rattle.calls.specs.Layers.{factLayerOf, roundLayerOf};
 ghost use Rattle.calls.specs.Plan.{planOf, Buffer};
 ghost use Rattle.calls.specs.Find.{findOf};
 ghost use Rattle.calls.specs.Compare.{compareOf};
+ghost use Rattle.calls.specs.Save.{saveOf, saveTold};
+ghost use Rattle.changes.specs.Change.{newOrder, newWishes, newClashes, newName};
 ghost use Rattle.capi.specs.Returned.{returned, nothing, alone, both, test, spotted};
 ghost use Rattle.capi.specs.Version.{interfaceNumber};
 use calls::ChoiceAnswer;
@@ -24,12 +26,13 @@ use calls::FindAnswer;
 use calls::PartitionAnswer;
 use calls::PassAnswer;
 use calls::PlanAnswer;
+use calls::SaveAnswer;
 use calls::VerticesAnswer;
 use reading::Refusal;
 use sets::ArticleSet;
 
 // The number of this interface, which goes up whenever it changes: KITCHEN_VERSION of the header.
-const VERSION: u32 = 2;
+const VERSION: u32 = 3;
 
 // An answer: two words, and the status 0.
 fn answered(out: &mut [u64; 2], a: u64, b: u64) -> u32
@@ -176,6 +179,77 @@ pub extern "C" fn kitchen_compare(first: &[u8], second: &[u8], out: &mut [u64; 2
         CompareAnswer::Unlike => answered(out, 0, 0),
         CompareAnswer::Refused(refusal) => refused(out, refusal),
     }
+}
+
+// ---- saving
+
+// The length of a new file, or why it is not written.
+fn saved(out: &mut [u64; 2], answer: SaveAnswer) -> u32
+    ensures { λ r. ⌜ record { status = r; words = now (out .exit) } ≡ returned alone (saveTold answer) ⌝ }
+{
+    match answer {
+        SaveAnswer::Saved(n) => answered(out, n as u64, 0),
+        SaveAnswer::Refused(refusal) => refused(out, refusal),
+    }
+}
+
+#[no_mangle]
+pub extern "C" fn kitchen_save_order(
+    file: &[u8],
+    order: u64,
+    to: &mut [u8],
+    out: &mut [u64; 2],
+) -> u32
+    ensures { λ r. ⌜ record { status = r; words = now (out .exit) } ≡ returned alone (saveOf (now (file .entry)) (newOrder order) (now (to .entry)) .answer) ⌝ }
+    ensures { λ r. ⌜ now (to .exit) ≡ saveOf (now (file .entry)) (newOrder order) (now (to .entry)) .buffer ⌝ }
+{
+    let answer = calls::save_order(file, order, to);
+    saved(out, answer)
+}
+
+#[no_mangle]
+pub extern "C" fn kitchen_save_wishes(
+    file: &[u8],
+    article: u64,
+    wishes: u64,
+    to: &mut [u8],
+    out: &mut [u64; 2],
+) -> u32
+    ensures { λ r. ⌜ record { status = r; words = now (out .exit) } ≡ returned alone (saveOf (now (file .entry)) (newWishes article wishes) (now (to .entry)) .answer) ⌝ }
+    ensures { λ r. ⌜ now (to .exit) ≡ saveOf (now (file .entry)) (newWishes article wishes) (now (to .entry)) .buffer ⌝ }
+{
+    let answer = calls::save_wishes(file, article as usize, wishes, to);
+    saved(out, answer)
+}
+
+#[no_mangle]
+pub extern "C" fn kitchen_save_clashes(
+    file: &[u8],
+    article: u64,
+    clashes: u64,
+    to: &mut [u8],
+    out: &mut [u64; 2],
+) -> u32
+    ensures { λ r. ⌜ record { status = r; words = now (out .exit) } ≡ returned alone (saveOf (now (file .entry)) (newClashes article clashes) (now (to .entry)) .answer) ⌝ }
+    ensures { λ r. ⌜ now (to .exit) ≡ saveOf (now (file .entry)) (newClashes article clashes) (now (to .entry)) .buffer ⌝ }
+{
+    let answer = calls::save_clashes(file, article as usize, ArticleSet { bits: clashes }, to);
+    saved(out, answer)
+}
+
+#[no_mangle]
+pub extern "C" fn kitchen_save_name(
+    file: &[u8],
+    article: u64,
+    name: &[u8],
+    to: &mut [u8],
+    out: &mut [u64; 2],
+) -> u32
+    ensures { λ r. ⌜ record { status = r; words = now (out .exit) } ≡ returned alone (saveOf (now (file .entry)) (newName article (now (name .entry))) (now (to .entry)) .answer) ⌝ }
+    ensures { λ r. ⌜ now (to .exit) ≡ saveOf (now (file .entry)) (newName article (now (name .entry))) (now (to .entry)) .buffer ⌝ }
+{
+    let answer = calls::save_name(file, article as usize, name, to);
+    saved(out, answer)
 }
 
 // ---- the interface itself

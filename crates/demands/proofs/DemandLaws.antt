@@ -50,13 +50,13 @@ use Rattle.demands.proofs.ReasonLaws.{file-no-answer}
 pub exactly-then : {A B C : Type 0} → Exactly A B → Exactly B C → Exactly A C
 exactly-then f g = (λ a. g .0 (f .0 a), λ c. f .1 (g .1 c))
 
-same-number : {A : Type 0} {m n p q : ℕ} → _≡_ {A = Said A} (refusedBy m p) (refusedBy n q) → m ≡ n
+pub same-number : {A : Type 0} {m n p q : ℕ} → _≡_ {A = Said A} (refusedBy m p) (refusedBy n q) → m ≡ n
 same-number e = cc
 
-same-place : {A : Type 0} {m n p q : ℕ} → _≡_ {A = Said A} (refusedBy m p) (refusedBy n q) → p ≡ q
+pub same-place : {A : Type 0} {m n p q : ℕ} → _≡_ {A = Said A} (refusedBy m p) (refusedBy n q) → p ≡ q
 same-place e = cc
 
-one-value : {A : Type 0} {x y : A} → _≡_ {A = Said A} (answered x) (answered y) → x ≡ y
+pub one-value : {A : Type 0} {x y : A} → _≡_ {A = Said A} (answered x) (answered y) → x ≡ y
 one-value e = cc
 
 no-refusal : {A : Type 0} {x : A} {n p : ℕ} → answered x ≡ refusedBy n p → ⊥
@@ -96,11 +96,11 @@ pub record Checks (t : Answer (Unit {0})) (faults : List Fault) : Type 1 where
   pub passes : {A : Type 0} (a : Answer A) → accepted (said (afterTests t a)) ≡ true → afterTests t a ≡ a
   pub tests : {A : Type 0} {a : Answer A} {more : List Fault} → Tests a more → Tests (afterTests t a) (faults ++ more)
 
-checks-passed : Checks passed []
+pub checks-passed : Checks passed []
 checks-passed = record { passes = λ a e. refl; tests = λ h. h }
 
 -- a test that finds the place of a fault
-checks-at : (o : Option ℕ) (At : ℕ → Type 0) (r : Reason) {t : Answer (Unit {0})} {faults : List Fault} → answers (numberOf r) ≡ false → ((u : ℕ) → Exactly (o ≡ some u) (At u)) → Checks t faults
+pub checks-at : (o : Option ℕ) (At : ℕ → Type 0) (r : Reason) {t : Answer (Unit {0})} {faults : List Fault} → answers (numberOf r) ≡ false → ((u : ℕ) → Exactly (o ≡ some u) (At u)) → Checks t faults
     → Checks (unlessAt o r t) (record { At = At; number = numberOf r } ∷ faults)
 checks-at (some u) At r stops h c =
     record {
@@ -126,7 +126,7 @@ checks-at none At r stops h c =
     }
 
 -- a test whose fault has place 0
-checks-unless : (b : Bool) (P : Type 0) (r : Reason) {t : Answer (Unit {0})} {faults : List Fault} → answers (numberOf r) ≡ false → Exactly (b ≡ true) P → Checks t faults
+pub checks-unless : (b : Bool) (P : Type 0) (r : Reason) {t : Answer (Unit {0})} {faults : List Fault} → answers (numberOf r) ≡ false → Exactly (b ≡ true) P → Checks t faults
     → Checks (unless b r t) (record { At = λ p. (p ≡ 0) × P; number = numberOf r } ∷ faults)
 checks-unless true P r stops h c = checks-at (some 0) (λ p. (p ≡ 0) × P) r stops (λ u. (λ e. (sym (Option·some-injective 0 u e), h .0 refl), λ w. ap some (sym (w .0)))) c
 checks-unless false P r stops h c = checks-at none (λ p. (p ≡ 0) × P) r stops (λ u. (λ e. absurd (Option·none-ne-some u e), λ w. absurd (false≢true (h .1 (w .1))))) c
@@ -172,7 +172,7 @@ right-true false b e = e
 either-exactly : {a b : Bool} {P Q : Type 0} → Exactly (a ≡ true) P → Exactly (b ≡ true) Q → Exactly (a || b ≡ true) (P ⊎ Q)
 either-exactly {a} {b} f g = (λ e. ⊎-elim (λ p. inl (f .0 p)) (λ q. inr (g .0 q)) (either-true a b e), ⊎-elim (λ p. left-true a b (f .1 p)) (λ q. right-true a b (g .1 q)))
 
-below-exactly : (a b : ℕ) → Exactly (ltb a b ≡ true) (a < b)
+pub below-exactly : (a b : ℕ) → Exactly (ltb a b ≡ true) (a < b)
 below-exactly a b = (ltb-true a b, lt-ltb a b)
 
 misplaced-exactly : (N : Network) (group : ℕ → ℕ) (u : ℕ) → Exactly (misplaced N group u ≡ true) (Misplaced N group u)
@@ -191,7 +191,7 @@ misplaced-exactly N group u = either-exactly (leb-true (N .articles) (group u), 
     back : (v : ℕ) × (v < u) × (group v ≡ group u) × (clash N v u ≡ false) → anyTo u test ≡ true
     back (v, l, p, q) = at-any u test v l (true-both (eqb (group v) (group u)) (not (clash N v u)) (eq-eqb (group v) (group u) p) (ap not q))
 
-outside-exactly : (n live : ℕ) → Exactly (outside n live ≡ true) ((u : ℕ) × (n ≤ u) × (u ∈ live))
+pub outside-exactly : (n live : ℕ) → Exactly (outside n live ≡ true) ((u : ℕ) × (n ≤ u) × (u ∈ live))
 unfolding outside
 outside-exactly n live = (to, back)
   where
@@ -256,24 +256,28 @@ module _ (takes : ℕ → Bool) (file : List ℕ) {A : Type 0} (call : Job (List
   abbrev on : Got (Job (List ℕ)) → Said A
   on g = said (onJob g call)
 
-  -- the file is refused, or the call is turned down on its job
-  pub file-exactly : (number place : ℕ) (Found : Job (List ℕ) → Type 0) → ((job : Job (List ℕ)) → Exactly (Refuses (said (call job)) number place) (Found job))
+  -- the file is refused, or the call is turned down on the job that it states
+  pub file-exactly : (number place : ℕ) (Found : Job (List ℕ) → Type 0) → ((job : Job (List ℕ)) (end : ℕ) → readJob takes file ≡ got job end → Exactly (Refuses (said (call job)) number place) (Found job))
       → Exactly (Refuses (on (readJob takes file)) number place) (Off takes file number place ⊎ ((job : Job (List ℕ)) × (end : ℕ) × (readJob takes file ≡ got job end) × Found job))
   file-exactly number place Found h = (to (readJob takes file) refl, ⊎-elim off (λ w. back w))
     where
       to : (g : Got (Job (List ℕ))) → readJob takes file ≡ g → Refuses (on g) number place → Off takes file number place ⊎ ((job : Job (List ℕ)) × (end : ℕ) × (readJob takes file ≡ got job end) × Found job)
       to (refused r p) e w = inl (r, e ∙ ap (λ (q : ℕ). refused r q) (same-place (w .0)), same-number (w .0))
-      to (got job end) e w = inr (job, end, e, h job .0 w)
+      to (got job end) e w = inr (job, end, e, h job end e .0 w)
 
       off : Off takes file number place → Refuses (on (readJob takes file)) number place
       off (reason, e, n) = (ap on e ∙ ap (λ (k : ℕ). refusedBy k place) n, ap answers (sym n) ∙ file-no-answer takes file e)
 
       back : (job : Job (List ℕ)) × (end : ℕ) × (readJob takes file ≡ got job end) × Found job → Refuses (on (readJob takes file)) number place
-      back (job, end, e, w) = let (r, s) = h job .1 w in (ap on e ∙ r, s)
+      back (job, end, e, w) = let (r, s) = h job end e .1 w in (ap on e ∙ r, s)
+
+  pub file-stated-tests : {faults : Job (List ℕ) → List Fault} → ((job : Job (List ℕ)) (end : ℕ) → readJob takes file ≡ got job end → Tests (call job) (faults job)) → (number place : ℕ)
+      → Exactly (Refuses (on (readJob takes file)) number place) (Wrong takes file faults number place)
+  file-stated-tests {faults} h number place = file-exactly number place (λ job. FirstOf (faults job) number place) (λ job end e. h job end e .exactly number place)
 
   pub file-tests : {faults : Job (List ℕ) → List Fault} → ((job : Job (List ℕ)) → Tests (call job) (faults job)) → (number place : ℕ)
       → Exactly (Refuses (on (readJob takes file)) number place) (Wrong takes file faults number place)
-  file-tests {faults} h number place = file-exactly number place (λ job. FirstOf (faults job) number place) (λ job. h job .exactly number place)
+  file-tests h = file-stated-tests (λ job end e. h job)
 
   -- if a call accepts its input, the file states a job, and the call is the one on that job
   pub file-taken : accepted (on (readJob takes file)) ≡ true → (job : Job (List ℕ)) × (end : ℕ) × (readJob takes file ≡ got job end) × (onJob (readJob takes file) call ≡ call job) × (accepted (said (call job)) ≡ true)

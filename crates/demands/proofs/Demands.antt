@@ -20,6 +20,7 @@ use Rattle.jobfile.specs.Meaning.{spotIn, nameIn}
 use Rattle.jobfile.proofs.NamingLaws.{name-at-spot}
 use Rattle.reading.specs.Items.{spots}
 use Rattle.jobfile.proofs.Theorems.{exact-and-valid, kind-taken, read-back, one-writing}
+use Rattle.jobfile.proofs.StatedLaws.{choice-stated}
 use Rattle.names.specs.Names.{lowestNamed}
 use Rattle.names.specs.Likeness.{alike}
 use Rattle.network.specs.Network.{Selection, networkOf}
@@ -33,6 +34,8 @@ use Rattle.planning.specs.Layers.{factLayer, roundLayer}
 use Rattle.planning.proofs.PlanLaws.{fewest-none, none-fewest}
 use Rattle.layers.proofs.LayerCode.{facts-length, rounds-length}
 use Rattle.arguments.specs.Answers.{Answer, refusal, value, onJob, refusedBy, answered, said, accepted}
+use Rattle.changes.specs.Change.{Change, isAbsent, newFile}
+use Rattle.drafts.specs.Draft.{draftIn, draftOf, roomFor}
 use Rattle.calls.specs.Partition.{partitionIn, partitionOf}
 use Rattle.calls.specs.Pass.{passIn, passOf}
 use Rattle.calls.specs.Choose.{chosenOr, chooseIn, chooseOf}
@@ -41,9 +44,12 @@ use Rattle.calls.specs.Plan.{planIn, planOf, WordsIn, Buffer}
 use Rattle.calls.specs.Name.{nameOf}
 use Rattle.calls.specs.Find.{findIn, findOf}
 use Rattle.calls.specs.Compare.{compareOf}
+use Rattle.calls.specs.Save.{saveOf}
 use Rattle.demands.specs.Demands.{Exactly, Refuses, Says, Off, Wrong, absentLayer, shortBuffer, falsePartition, absentArticle, wrongGoal, wrongGoals, Has, Alike, ChoiceKept, PlanKept}
+use Rattle.demands.specs.Saving.{Given, wrongSaving}
 use Rattle.demands.proofs.ReasonLaws.{file-reason}
-use Rattle.demands.proofs.DemandLaws.{exactly-then, tests-end, accepted-exactly, both-pass, room-checks, layer-checks, groups-checks, pass-checks, goals-checks, file-exactly, file-tests, file-taken, file-only, left-exactly, left-taken, left-kept, left-value, name-past, chosen-taken, chosen-none, choice-is, choice-kept, found-taken, found-none, found-some, lowest-exactly, nobody-exactly, alike-exactly, plan-is, plan-kept}
+use Rattle.demands.proofs.DemandLaws.{exactly-then, tests-end, accepted-exactly, both-pass, room-checks, layer-checks, groups-checks, pass-checks, goals-checks, file-exactly, file-tests, file-stated-tests, file-taken, file-only, left-exactly, left-taken, left-kept, left-value, name-past, chosen-taken, chosen-none, choice-is, choice-kept, found-taken, found-none, found-some, lowest-exactly, nobody-exactly, alike-exactly, plan-is, plan-kept}
+use Rattle.demands.proofs.SaveLaws.{change-tests, room-on, saved-value}
 
 -- ---- demand 1
 
@@ -109,11 +115,19 @@ demand-1-plan file buffer =
 pub demand-1-find : (file name : List ℕ) (number place : ℕ) → Exactly (Refuses (said (findOf file name)) number place) (Wrong either file (λ job. []) number place)
 demand-1-find file name = file-tests either file (λ job. findIn job name) (λ job. tests-end _ (found-taken (lowestNamed name (size job) (λ i. getD (namesOf (job .records)) i [])) NameNotFound refl))
 
+-- saving: the old file, then what is wrong with the change, then the buffer for the new file
+pub demand-1-save : (file : List ℕ) (change : Change) (buffer : List ℕ) → Bytes file → Given change → (number place : ℕ)
+    → Exactly (Refuses (saveOf file change buffer .answer) number place) (Wrong choices file (wrongSaving change buffer) number place)
+demand-1-save file change buffer bytes given number place =
+    exactly-then (left-exactly (λ new. new) (λ new. length new) buffer (roomFor buffer (draftOf file change)) number place)
+    (subst (λ a. Exactly (Refuses (said a) number place) (Wrong choices file (wrongSaving change buffer) number place)) (sym (room-on buffer (readJob choices file) (draftIn change)))
+    (file-stated-tests choices file (λ job. roomFor buffer (draftIn change job)) (λ job end e. change-tests job (choice-stated file bytes e) buffer change given) number place))
+
 -- the comparison: the first file, then the second
 pub demand-1-compare : (first second : List ℕ) (number place : ℕ)
     → Exactly (Refuses (said (compareOf first second)) number place) (Off choices first number place ⊎ ((job : Job (List ℕ)) × (end : ℕ) × (readJob choices first ≡ got job end) × Off choices second number place))
 demand-1-compare first second number place =
-    file-exactly choices first (λ a. onJob (readJob choices second) (λ b. value (alike a b))) number place (λ job. Off choices second number place) (λ a.
+    file-exactly choices first (λ a. onJob (readJob choices second) (λ b. value (alike a b))) number place (λ job. Off choices second number place) (λ a end e.
     exactly-then (file-tests choices second (λ b. value (alike a b)) (λ b. tests-end (value (alike a b)) refl) number place) (file-only choices second number place))
 
 -- a refusal leaves the buffer as it was, 14 to 16 included
@@ -133,6 +147,9 @@ demand-1-plan-kept file old new {number} {place} b e = go (readJob fittings file
     go (refused r p) a b e = b
     go (got job end) (refusal r p) b e = b
     go (got job end) (value k) b e = let z : _≡_ {A = ℕ} 0 1 = cc in absurd (omega arith)
+
+pub demand-1-save-kept : (file : List ℕ) (change : Change) (buffer : List ℕ) {number place : ℕ} → saveOf file change buffer .answer ≡ refusedBy number place → saveOf file change buffer .buffer ≡ buffer
+demand-1-save-kept file change buffer e = left-kept (λ new. new) (λ new. length new) buffer (roomFor buffer (draftOf file change)) e
 
 -- the call for a name never refuses: it answers the empty name
 pub demand-1-name : (file : List ℕ) (number : ℕ) {reason : Reason} {place : ℕ} → readJob either file ≡ refused reason place → nameOf file number ≡ []
@@ -179,6 +196,10 @@ demand-1-find-else file name = accepted-exactly (said (findOf file name)) (deman
 pub demand-1-compare-else : (first second : List ℕ)
     → Exactly (accepted (said (compareOf first second)) ≡ true) ((number place : ℕ) → Off choices first number place ⊎ ((job : Job (List ℕ)) × (end : ℕ) × (readJob choices first ≡ got job end) × Off choices second number place) → ⊥)
 demand-1-compare-else first second = accepted-exactly (said (compareOf first second)) (demand-1-compare first second)
+
+pub demand-1-save-else : (file : List ℕ) (change : Change) (buffer : List ℕ) → Bytes file → Given change
+    → Exactly (accepted (saveOf file change buffer .answer) ≡ true) ((number place : ℕ) → Wrong choices file (wrongSaving change buffer) number place → ⊥)
+demand-1-save-else file change buffer bytes given = accepted-exactly (saveOf file change buffer .answer) (demand-1-save file change buffer bytes given)
 
 -- what finding and comparing answer; the other calls are those of demands 2 and 3
 pub demand-1-find-result : (file name : List ℕ) → accepted (said (findOf file name)) ≡ true → (job : Job (List ℕ)) × (end : ℕ) × (readJob either file ≡ got job end) × (said (findOf file name) ≡ said (findIn job name))
@@ -256,6 +277,16 @@ demand-2-round-layer file buffer k t =
     let a = onJob (readJob fittings file) (λ job. roundLayerIn job k buffer) in
     let (job, end, e, i, s) = file-taken fittings file (λ job. roundLayerIn job k buffer) (sym (left-taken (λ layer. layer .words) (λ layer. layer .members) buffer a) ∙ t) in
     let (p, q) = left-value (λ layer. layer .words) (λ layer. layer .members) buffer (i ∙ layer-checks k 1 (horizon job) buffer 64 .passes _ s) (rounds-length 32 (fittingOf job) k) in
+    (job, end, e, p, q)
+
+-- the new file of the job with a change, at the front of the buffer, with the later bytes as they were
+pub demand-2-save : (file : List ℕ) (change : Change) (buffer : List ℕ) → accepted (saveOf file change buffer .answer) ≡ true
+    → (job : Job (List ℕ)) × (end : ℕ) × (readJob choices file ≡ got job end) × (saveOf file change buffer .answer ≡ answered (length (newFile change job))) × (saveOf file change buffer .buffer ≡ newFile change job ++ drop (length (newFile change job)) buffer)
+demand-2-save file change buffer t =
+    let call : Job (List ℕ) → Answer (List ℕ) = λ job. roomFor buffer (draftIn change job) in
+    let same = room-on buffer (readJob choices file) (draftIn change) in
+    let (job, end, e, i, s) = file-taken choices file call (sym (ap (λ a. accepted (said a)) same) ∙ sym (left-taken (λ new. new) (λ new. length new) buffer (roomFor buffer (draftOf file change))) ∙ t) in
+    let (p, q) = left-value (λ new. new) (λ new. length new) buffer (same ∙ i ∙ saved-value buffer (isAbsent change job) (newFile change job) s) refl in
     (job, end, e, p, q)
 
 -- accepted files of one job are one file

@@ -1,5 +1,7 @@
 -- The demands as theorems, and the laws that lead to them.
 pub mod ReasonLaws
 pub mod DemandLaws
+pub mod SaveLaws
 pub mod Demands
+pub mod Saving
 pub mod Promises

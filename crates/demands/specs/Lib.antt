@@ -1,2 +1,3 @@
--- What the user's demands say of the open calls.
+-- What the user's demands, and what was asked for later, say of the open calls.
 pub mod Demands
+pub mod Saving

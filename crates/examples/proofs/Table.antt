@@ -8,7 +8,9 @@ use Rattle.reading.specs.Got.{eachAt, upFrom}
 use Rattle.reading.specs.Items.{kindAt, valueAt, numberAt, countAt, mapAt, setAt, fieldAt, lengthAt, nameAt}
 use Rattle.jobfile.specs.Layout.{choice, fitting, kinds, layoutIn}
 use Rattle.jobfile.specs.Read.{fieldsAt, recordAt, bodyAt, layoutAt, read, readJob}
+use Rattle.jobfile.specs.Write.{bytesOf, fieldBytes, nameBytes, fieldsBytes, partsBytes, mapOf, joined, writeRecord, writeEach, writeAll, writeBody, write}
 use Rattle.names.specs.Names.{sameList}
+use Rattle.changes.specs.Change.{alter}
 use Rattle.text.specs.Text.{digits, members, roundTexts}
 use Rattle.network.specs.Network.{clash, together}
 use Rattle.network.specs.Groups.{misplaced, firstMisplaced, suits, opened, joins, groupsTo}
@@ -19,5 +21,5 @@ use Rattle.planning.specs.Layers.{mutexes, opposed, stands, rivals, standing, r
 use Rattle.examples.specs.Table.{Hold, rows}
 
 pub table : Hold rows
-unfolding everyTo anyTo sumTo maxTo listTo bit without part meets everyPair setOf unionTo gathered countIn count taking givingUp firstFrom eachAt upFrom kindAt valueAt numberAt countAt mapAt setAt fieldAt lengthAt nameAt choice fitting kinds layoutIn fieldsAt recordAt bodyAt layoutAt read readJob clash together misplaced firstMisplaced suits opened joins groupsTo outside badGoal firstBad share contribution others supported pass passes setAside isCover smallest disturb after isRound leads leadsIn fewest mutexes opposed stands rivals standing roundOver givers excluded givenBy factsOver factLayer sameList digits members roundTexts
-table = (refl, (refl, (refl, (refl, (refl, (refl, (refl, (refl, (refl, (refl, (refl, (refl, (refl, (refl, (refl, (refl, (refl, (refl, (refl, (refl, (refl, (refl, (refl, (refl, (refl, (refl, (refl, (refl, (refl, (refl, (refl, (refl, (refl, (refl, (refl, (refl, (refl, (refl, (refl, (refl, (refl, (refl, (refl, (refl, (refl, (refl, (refl, (refl, (refl, (refl, (refl, (refl, (refl, (refl, (refl, (refl, (refl, (refl, (refl, (refl, (refl, (refl, (refl, (refl, (refl, (refl, (refl, (refl, (refl, (refl, (refl, (refl, (refl, (refl, (refl, (refl, (refl, (refl, (refl, (refl, (refl, tt)))))))))))))))))))))))))))))))))))))))))))))))))))))))))))))))))))))))))))))))))
+unfolding everyTo anyTo sumTo maxTo listTo bit without part meets everyPair setOf unionTo gathered countIn count taking givingUp firstFrom eachAt upFrom kindAt valueAt numberAt countAt mapAt setAt fieldAt lengthAt nameAt choice fitting kinds layoutIn fieldsAt recordAt bodyAt layoutAt read readJob bytesOf fieldBytes nameBytes fieldsBytes partsBytes mapOf joined writeRecord writeEach writeAll writeBody write alter clash together misplaced firstMisplaced suits opened joins groupsTo outside badGoal firstBad share contribution others supported pass passes setAside isCover smallest disturb after isRound leads leadsIn fewest mutexes opposed stands rivals standing roundOver givers excluded givenBy factsOver factLayer sameList digits members roundTexts
+table = (refl, (refl, (refl, (refl, (refl, (refl, (refl, (refl, (refl, (refl, (refl, (refl, (refl, (refl, (refl, (refl, (refl, (refl, (refl, (refl, (refl, (refl, (refl, (refl, (refl, (refl, (refl, (refl, (refl, (refl, (refl, (refl, (refl, (refl, (refl, (refl, (refl, (refl, (refl, (refl, (refl, (refl, (refl, (refl, (refl, (refl, (refl, (refl, (refl, (refl, (refl, (refl, (refl, (refl, (refl, (refl, (refl, (refl, (refl, (refl, (refl, (refl, (refl, (refl, (refl, (refl, (refl, (refl, (refl, (refl, (refl, (refl, (refl, (refl, (refl, (refl, (refl, (refl, (refl, (refl, (refl, (refl, (refl, (refl, (refl, (refl, (refl, (refl, (refl, (refl, (refl, (refl, (refl, (refl, (refl, (refl, (refl, (refl, (refl, (refl, (refl, (refl, tt))))))))))))))))))))))))))))))))))))))))))))))))))))))))))))))))))))))))))))))))))))))))))))))))))))))

@@ -1,7 +1,7 @@
 -- The files of the examples, byte by byte, by the letters of docs/RULES.md. Multi-byte fields have their lowest byte first.
 use mathlib.Core.List.{List, [], _∷_, _++_}
 use Prim.Native.Nat.{ℕ}
-use lib.ListN.{take, set}
+use lib.ListN.{take, drop, set}
 
 -- A: articles 0 {wish 0}; 1 {1}, which clashes with 0; 2 {0, 1}; the order is {0, 1}. By lines: kind, articles, wishes; order; then the records,
 -- each its bit map, its wishes and, if they are marked, its clashes: 46 bytes
@@ -20,6 +20,10 @@ fileShort = take 45 fileA
 
 abbrev pub fileLong : List ℕ
 fileLong = fileA ++ (0 ∷ [])
+
+-- A without the clashes of article 1: its bit map in byte 20 marks wishes only, and the 8 bytes from 29 on are gone
+abbrev pub fileFree : List ℕ
+fileFree = set (take 29 fileA ++ drop 37 fileA) 20 1
 
 -- B: articles 0 {wish 0}; 1 {0, 1}, which clashes with 0; 2 {2}; the order is {0, 1, 2}. The lines are those of A
 abbrev pub fileB : List ℕ

@@ -1,10 +1,10 @@
 -- The one table of the examples that docs/RULES.md marks with a star, and of others: what the open calls answer, from the bytes of the files, by the
 -- numbers of the rules. A must-fail edit of an open call names the row whose right answer its wrong program does not give.
 use mathlib.Core.Path.{_≡_}
-use mathlib.Core.Bool.{Bool, true, false}
+use mathlib.Core.Bool.{true, false}
 use mathlib.Core.List.{List, [], _∷_, _++_}
 use Prim.Native.Nat.{ℕ, _+_, _*_, _/_, _%_, _^_}
-use lib.ListN.{length, replicate, set}
+use lib.ListN.{length, take, drop, replicate, set}
 use Rattle.sets.specs.Sets.{member, count, setOf}
 use Rattle.sets.specs.Articles.{taking, givingUp}
 use Rattle.reading.specs.Reasons.{answers}
@@ -14,6 +14,7 @@ use Rattle.jobfile.specs.Read.{read, readJob, fittings, either}
 use Rattle.jobfile.specs.Meaning.{spotIn}
 use Rattle.planning.specs.Rounds.{fittingOf, isPlan}
 use Rattle.arguments.specs.Answers.{Answer, value, onJob, Said, refusedBy, answered, said, Left}
+use Rattle.changes.specs.Change.{newOrder, newWishes, newClashes, newName}
 use Rattle.calls.specs.Partition.{partitionOf}
 use Rattle.calls.specs.Pass.{passOf}
 use Rattle.calls.specs.Choose.{Chosen, chooseOf}
@@ -23,10 +24,11 @@ use Rattle.calls.specs.Plan.{planOf}
 use Rattle.calls.specs.Name.{nameOf}
 use Rattle.calls.specs.Find.{findOf}
 use Rattle.calls.specs.Compare.{compareOf}
+use Rattle.calls.specs.Save.{saveOf}
 use Rattle.capi.specs.Returned.{Returned, returned, nothing, alone, both, test, spotted}
 use Rattle.capi.specs.Version.{interfaceNumber}
 use Rattle.report.specs.Outcome.{outcomeOf, blankWords, textOf}
-use Rattle.examples.specs.Files.{fileA, fileShort, fileLong, fileB, fileEmpty, fileMany, fileNamed, fileF, fileNear, fileG, fileBack}
+use Rattle.examples.specs.Files.{fileA, fileShort, fileLong, fileB, fileEmpty, fileMany, fileFree, fileNamed, fileF, fileNear, fileG, fileBack}
 
 -- what the definitions give, and what the rules say
 pub record Row : Type 1 where
@@ -165,6 +167,30 @@ rowsNumbers =
     ∷ says (compareOf fileShort fileMany) (refusedBy 2 45)
     ∷ []
 
+-- saving A with another order, with an order of zero, with other wishes of article 1, without its clashes, and with them again; a name that goes and one
+-- that comes. What is refused, each with no buffer or one that is short: a name of 33 bytes and one of 257; clashes of article 1 with itself; a wish that
+-- A lacks, of article 1 and in the order; a short buffer; article 3, with no wishes and with a name of 33 bytes; the old file before all else
+abbrev rowsSaving : List Row
+rowsSaving =
+    leaves (saveOf fileA (newOrder 1) (nines 47)) (answered 46) (set fileA 3 1 ++ nines 1)
+    ∷ leaves (saveOf fileA (newOrder 0) (nines 46)) (answered 46) (set fileA 3 0)
+    ∷ leaves (saveOf fileA (newWishes 1 1) (nines 46)) (answered 46) (set fileA 21 1)
+    ∷ leaves (saveOf fileA (newClashes 1 0) (nines 39)) (answered 38) (fileFree ++ nines 1)
+    ∷ leaves (saveOf fileFree (newClashes 1 1) (nines 46)) (answered 46) fileA
+    ∷ leaves (saveOf fileNamed (newName 1 []) (nines 16)) (answered 16) (take 12 fileNamed ++ (0 ∷ 4 ∷ 1 ∷ 97 ∷ []))
+    ∷ leaves (saveOf fileNamed (newName 0 (98 ∷ [])) (nines 20)) (answered 20) (take 11 fileNamed ++ (4 ∷ 1 ∷ 98 ∷ drop 12 fileNamed))
+    ∷ leaves (saveOf fileA (newName 1 (nines 33)) []) (refusedBy 7 37) []
+    ∷ leaves (saveOf fileA (newName 1 (nines 257)) []) (refusedBy 7 37) []
+    ∷ leaves (saveOf fileA (newClashes 1 2) []) (refusedBy 6 29) []
+    ∷ leaves (saveOf fileA (newWishes 1 4) []) (refusedBy 6 21) []
+    ∷ leaves (saveOf fileA (newOrder 4) []) (refusedBy 6 3) []
+    ∷ leaves (saveOf fileA (newOrder 1) (nines 45)) (refusedBy 10 0) (nines 45)
+    ∷ leaves (saveOf fileA (newWishes 3 0) []) (refusedBy 9 0) []
+    ∷ leaves (saveOf fileA (newName 3 (nines 33)) []) (refusedBy 9 0) []
+    ∷ leaves (saveOf fileShort (newWishes 3 0) []) (refusedBy 2 45) []
+    ∷ leaves (saveOf fileF (newOrder 0) []) (refusedBy 1 0) []
+    ∷ []
+
 -- what each function of the C interface hands back of such answers: a status, and two words; its number
 abbrev handed : ℕ → ℕ → ℕ → Returned
 handed status first second = record { status = status; words = first ∷ second ∷ [] }
@@ -182,7 +208,11 @@ rowsC =
     ∷ is (returned alone (said (findOf fileNamed (97 ∷ [])))) (handed 0 1 0)
     ∷ is (returned test (said (compareOf fileA fileA))) (handed 0 1 0)
     ∷ is (returned test (said (compareOf fileA fileB))) (handed 0 0 0)
-    ∷ is interfaceNumber 2
+    ∷ is (returned alone (saveOf fileA (newOrder 1) (nines 47) .answer)) (handed 0 46 0)
+    ∷ is (returned alone (saveOf fileA (newWishes 1 1) (nines 46) .answer)) (handed 0 46 0)
+    ∷ is (returned alone (saveOf fileA (newClashes 1 2) [] .answer)) (handed 6 29 0)
+    ∷ is (returned alone (saveOf fileA (newName 1 (nines 257)) [] .answer)) (handed 7 37 0)
+    ∷ is interfaceNumber 3
     ∷ []
 
 -- what the program prints, in bytes: "chosen 1 2" and "aside 0" of B; "rounds 2", "1: 0" and "2: 1 2" of F; "refused 2 at 45"
@@ -219,4 +249,4 @@ rowsAnswers =
     ∷ []
 
 abbrev pub rows : List Row
-rows = rowsA ++ (rowsB ++ (rowsF ++ (rowsNames ++ (rowsNumbers ++ (rowsC ++ (rowsText ++ (rowsSets ++ rowsAnswers)))))))
+rows = rowsA ++ (rowsB ++ (rowsF ++ (rowsNames ++ (rowsNumbers ++ (rowsSaving ++ (rowsC ++ (rowsText ++ (rowsSets ++ rowsAnswers))))))))

@@ -1,10 +1,10 @@
 -- The laws of whole files, for any layout whose fields have room for what they hold, and for any list of such layouts; and that the kinds that there are
 -- are such. Assumes nothing.
-use mathlib.Core.Path.{_≡_, refl, ap, sym}
+use mathlib.Core.Path.{_≡_, refl, ap, sym, subst}
 use mathlib.Core.Bool.{Bool, true, false, cond}
 use mathlib.Core.List.{List, [], _∷_, append-nil}
 use mathlib.Core.Option.{some}
-use Prim.Native.Nat.{ℕ, zero, suc, _^_, _≤_, _<_}
+use Prim.Native.Nat.{ℕ, zero, suc, _+_, _^_, _≤_, _<_}
 use native.Mathlib.Nat.{le-trans, le-refl}
 use native.Mathlib.Omega.{arith}
 use lib.Dec.{eqb, lit<, lit≤}
@@ -14,9 +14,9 @@ use borrow.Author.Tests.{eqb-true}
 use Rattle.reading.specs.Got.{eachAt, upFrom}
 use Rattle.reading.specs.Items.{bytesIn, countAt, setAt}
 use Rattle.jobfile.specs.Layout.{Count, Bound, counted, own, Field, set, amount, Layout, bits, choice, fitting, kinds, layoutIn}
-use Rattle.jobfile.specs.Job.{Record, Job}
+use Rattle.jobfile.specs.Job.{noRecord, Job}
 use Rattle.jobfile.specs.Read.{below, recordAt, bodyAt}
-use Rattle.jobfile.specs.Write.{bytesOf, writeRecord, writeAll, writeBody}
+use Rattle.jobfile.specs.Write.{bytesOf, writeRecord, writeEach, writeAll, writeBody}
 use Rattle.jobfile.specs.Valid.{Each, AllFrom, ValidRecord}
 use Rattle.jobfile.proofs.Lawful.{Lawful, All, restate, reread, each-same, seq-lawful, pure-lawful, each-lawful, all-lawful}
 use Rattle.jobfile.proofs.ItemLaws.{count-lawful, set-lawful}
@@ -47,7 +47,7 @@ layout-found P (x ∷ layouts) kind {layout} all e = go (eqb kind (x .kind)) ref
 
 -- ---- the kinds that there are
 
-choice-sound : Sound choice
+pub choice-sound : Sound choice
 unfolding choice
 choice-sound = record {
   counts = (lit< tt, (lit< tt, tt));
@@ -83,6 +83,12 @@ each-at P a b past (x ∷ xs) [] o k = absurd o
 each-at P a b past (x ∷ xs) (y ∷ ys) o zero = o .0
 each-at P a b past (x ∷ xs) (y ∷ ys) o (suc k) = each-at P a b past xs ys (o .1) k
 
+-- element i, which has number n in all
+pub all-at : {A : Type 0} (P : ℕ → A → Type 0) (none : A) (k i n : ℕ) → n ≡ k + i → (l : List A) → AllFrom P k l → i < length l → P n (getD l i none)
+all-at P none k i n e [] o h = absurd (omega arith)
+all-at P none k zero n e (x ∷ l) o h = subst (λ (j : ℕ). P j x) (let same : k ≡ n = omega arith in same) (o .0)
+all-at P none k (suc i) n e (x ∷ l) o h = all-at P none (suc k) i n (omega arith) l (o .1) (omega arith)
+
 -- a count is at most its limit
 pub count-bound : (layout : Layout) (vs : List ℕ) → Each (λ c v. v ≤ c .limit) (layout .counts) vs → (k : ℕ) → getD vs k 0 ≤ limitAt layout k
 count-bound layout vs o = each-at (λ c v. v ≤ c .limit) (record { bytes = 0; limit = 0 }) 0 (le-refl 0) (layout .counts) vs o
@@ -109,9 +115,6 @@ heads-lawful limit top h (b ∷ hs) o = (set-lawful b limit (le-trans (pow-mono 
 
 -- ---- after the kind
 
-noRecord : Record (List ℕ)
-noRecord = record { before = []; name = []; after = [] }
-
 -- what holds of a job of this layout
 pub record Body (layout : Layout) (job : Job (List ℕ)) : Type 0 where
   pub kind : job .kind ≡ layout .kind
@@ -120,32 +123,44 @@ pub record Body (layout : Layout) (job : Job (List ℕ)) : Type 0 where
   pub size : length (job .records) ≡ getD (job .counts) 0 0
   pub records : AllFrom (ValidRecord layout (getD (job .counts) 1 0)) 0 (job .records)
 
-pub body-lawful : (layout : Layout) → Sound layout → Lawful (λ f at. bodyAt (bytesIn f) layout f at) (writeBody layout) (Body layout)
-unfolding bodyAt writeBody
-body-lawful layout ok =
-    restate
-    (seq-lawful (λ j. j .counts) (each-lawful 0 (λ c. countAt (c .bytes) (c .limit)) (λ c. bytesOf (c .bytes)) (λ c v. v ≤ c .limit) (layout .counts) (counts-lawful (layout .counts) (ok .counts)))
-    (λ cs vcs. seq-lawful (λ j. j .heads) (each-lawful 0 (λ bytes. setAt bytes (getD cs 1 0)) bytesOf (λ bytes v. v < 2 ^ getD cs 1 0) (layout .heads) (heads-lawful (getD cs 1 0) (limitAt layout 1) (count-bound layout cs vcs 1) (layout .heads) (ok .heads)))
-    (λ hs vhs. seq-lawful (λ j. j .records) (all-records cs vcs)
-    (λ rs vrs. pure-lawful (record { kind = layout .kind; counts = cs; heads = hs; records = rs }))
-    (λ rs j vrs o. ap (λ (x : Job (List ℕ)). x .records) o))
-    (λ hs j vhs o. ap (λ (x : Job (List ℕ)). x .heads) (o .1)))
-    (λ cs j vcs o. ap (λ (x : Job (List ℕ)). x .counts) (o .1 .1)))
-    (λ j o. record { kind = ap (λ (x : Job (List ℕ)). x .kind) (o .1 .1 .1); counts = o .0; heads = o .1 .0; size = o .1 .1 .0 .0; records = o .1 .1 .0 .1 })
-    (λ j o. (o .counts, (o .heads, ((o .size, o .records), whole j (o .kind)))))
-    (λ j o. rw append-nil)
-  where
-    all-records : (cs : List ℕ) → Each (λ c v. v ≤ c .limit) (layout .counts) cs
-        → Lawful (λ f at. eachAt (recordAt (bytesIn f) layout (getD cs 1 0)) (upFrom (getD cs 0 0) 0) f at) (writeAll (writeRecord layout))
-        (λ rs. (length rs ≡ getD cs 0 0) × AllFrom (ValidRecord layout (getD cs 1 0)) 0 rs)
-    all-records cs o =
-        reread (λ f at. each-same (λ i g. recordAt (bytesIn g) layout (getD cs 1 0) i g) (recordAt (bytesIn f) layout (getD cs 1 0)) f (λ i a. refl) (upFrom (getD cs 0 0) 0) at)
-        (all-lawful noRecord (λ i f at. recordAt (bytesIn f) layout (getD cs 1 0) i f at) (writeRecord layout) (ValidRecord layout (getD cs 1 0)) (limitAt layout 0)
-        (λ i l. record-lawful layout (getD cs 1 0) i (roomy i (omega arith) (layout .before) (ok .before)) (roomy i (omega arith) (layout .after) (ok .after)) (ok .few) (ok .longest))
-        (getD cs 0 0) (count-bound layout cs o 0))
-      where
-        roomy : (i : ℕ) → i ≤ limitAt layout 0 → (fields : List Field) → All (Roomy (limitAt layout 1) (limitAt layout 0)) fields → All (Roomy (getD cs 1 0) i) fields
-        roomy i l fields = room fields (getD cs 1 0) i (limitAt layout 1) (limitAt layout 0) (count-bound layout cs o 1) l
+module _ (layout : Layout) (ok : Sound layout) where
+  pub all-counts : Lawful (eachAt (λ c. countAt (c .bytes) (c .limit)) (layout .counts)) (writeEach (λ c v. bytesOf (c .bytes) v) (layout .counts)) (Each (λ c v. v ≤ c .limit) (layout .counts))
+  all-counts = each-lawful 0 (λ c. countAt (c .bytes) (c .limit)) (λ c. bytesOf (c .bytes)) (λ c v. v ≤ c .limit) (layout .counts) (counts-lawful (layout .counts) (ok .counts))
 
-    whole : (j : Job (List ℕ)) → j .kind ≡ layout .kind → j ≡ record { kind = layout .kind; counts = j .counts; heads = j .heads; records = j .records }
-    whole j e = ap (λ (k : ℕ). record { kind = k; counts = j .counts; heads = j .heads; records = j .records }) e
+  module _ (cs : List ℕ) (few : Each (λ c v. v ≤ c .limit) (layout .counts) cs) where
+    pub one-head : All (λ bytes. Lawful (setAt bytes (getD cs 1 0)) (bytesOf bytes) (λ v. v < 2 ^ getD cs 1 0)) (layout .heads)
+    one-head = heads-lawful (getD cs 1 0) (limitAt layout 1) (count-bound layout cs few 1) (layout .heads) (ok .heads)
+
+    pub all-heads : Lawful (eachAt (λ bytes. setAt bytes (getD cs 1 0)) (layout .heads)) (writeEach bytesOf (layout .heads)) (Each (λ bytes v. v < 2 ^ getD cs 1 0) (layout .heads))
+    all-heads = each-lawful 0 (λ bytes. setAt bytes (getD cs 1 0)) bytesOf (λ bytes v. v < 2 ^ getD cs 1 0) (layout .heads) one-head
+
+    pub roomy : (i : ℕ) → i ≤ limitAt layout 0 → (fields : List Field) → All (Roomy (limitAt layout 1) (limitAt layout 0)) fields → All (Roomy (getD cs 1 0) i) fields
+    roomy i l fields = room fields (getD cs 1 0) i (limitAt layout 1) (limitAt layout 0) (count-bound layout cs few 1) l
+
+    pub one-record : (i : ℕ) → i < limitAt layout 0 → Lawful (λ f at. recordAt (bytesIn f) layout (getD cs 1 0) i f at) (writeRecord layout) (ValidRecord layout (getD cs 1 0) i)
+    one-record i l = record-lawful layout (getD cs 1 0) i (roomy i (omega arith) (layout .before) (ok .before)) (roomy i (omega arith) (layout .after) (ok .after)) (ok .few) (ok .longest)
+
+    all-records : Lawful (λ f at. eachAt (recordAt (bytesIn f) layout (getD cs 1 0)) (upFrom (getD cs 0 0) 0) f at) (writeAll (writeRecord layout))
+        (λ rs. (length rs ≡ getD cs 0 0) × AllFrom (ValidRecord layout (getD cs 1 0)) 0 rs)
+    all-records =
+        reread (λ f at. each-same (λ i g. recordAt (bytesIn g) layout (getD cs 1 0) i g) (recordAt (bytesIn f) layout (getD cs 1 0)) f (λ i a. refl) (upFrom (getD cs 0 0) 0) at)
+        (all-lawful noRecord (λ i f at. recordAt (bytesIn f) layout (getD cs 1 0) i f at) (writeRecord layout) (ValidRecord layout (getD cs 1 0)) (limitAt layout 0) one-record
+        (getD cs 0 0) (count-bound layout cs few 0))
+
+  pub body-lawful : Lawful (λ f at. bodyAt (bytesIn f) layout f at) (writeBody layout) (Body layout)
+  unfolding bodyAt writeBody
+  body-lawful =
+      restate
+      (seq-lawful (λ j. j .counts) all-counts
+      (λ cs vcs. seq-lawful (λ j. j .heads) (all-heads cs vcs)
+      (λ hs vhs. seq-lawful (λ j. j .records) (all-records cs vcs)
+      (λ rs vrs. pure-lawful (record { kind = layout .kind; counts = cs; heads = hs; records = rs }))
+      (λ rs j vrs o. ap (λ (x : Job (List ℕ)). x .records) o))
+      (λ hs j vhs o. ap (λ (x : Job (List ℕ)). x .heads) (o .1)))
+      (λ cs j vcs o. ap (λ (x : Job (List ℕ)). x .counts) (o .1 .1)))
+      (λ j o. record { kind = ap (λ (x : Job (List ℕ)). x .kind) (o .1 .1 .1); counts = o .0; heads = o .1 .0; size = o .1 .1 .0 .0; records = o .1 .1 .0 .1 })
+      (λ j o. (o .counts, (o .heads, ((o .size, o .records), whole j (o .kind)))))
+      (λ j o. rw append-nil)
+    where
+      whole : (j : Job (List ℕ)) → j .kind ≡ layout .kind → j ≡ record { kind = layout .kind; counts = j .counts; heads = j .heads; records = j .records }
+      whole j e = ap (λ (k : ℕ). record { kind = k; counts = j .counts; heads = j .heads; records = j .records }) e

@@ -80,7 +80,7 @@ joined-both (g ∷ fields) others = ap (λ (l : List ℕ). g ++ l) (joined-both 
 
 -- ---- one field, with its mark
 
-written-field : (bytes v : ℕ) → 0 < bytes → isEmpty (fieldBytes bytes v) ≡ eqb v 0
+pub written-field : (bytes v : ℕ) → 0 < bytes → isEmpty (fieldBytes bytes v) ≡ eqb v 0
 unfolding fieldBytes bytesOf
 written-field zero v h = absurd (omega arith)
 written-field (suc bytes) v h = go (eqb v 0)
@@ -198,50 +198,58 @@ fields-lawful (field ∷ fields) count number m k room =
 
 -- ---- a record
 
-pub record-lawful : (layout : Layout) (count number : ℕ) → All (Roomy count number) (layout .before) → All (Roomy count number) (layout .after) → 2 ^ bits layout ≤ 256 → layout .longest < 256
-    → Lawful (λ f at. recordAt (bytesIn f) layout count number f at) (writeRecord layout) (ValidRecord layout count number)
-unfolding recordAt writeRecord partsBytes joined
-record-lawful layout count number room room′ few small =
-    restate
-    (seq-lawful (λ r. mapOf (partsBytes layout r)) (map-lawful (bits layout) few)
-    (λ m vm. seq-lawful (λ r. r .before) (fields-lawful (layout .before) count number m 0 room)
-    (λ vs o. seq-lawful (λ r. r .name) (name-field-lawful (member m (nameBit layout)) (layout .longest) small)
-    (λ s os. seq-lawful (λ r. r .after) (fields-lawful (layout .after) count number m (suc (nameBit layout)) room′)
-    (λ ws ow. pure-lawful (record { before = vs; name = s; after = ws }))
-    (λ ws r ow q. ap (λ (x : Record (List ℕ)). x .after) q))
-    (λ s r os q. ap (λ (x : Record (List ℕ)). x .name) (q .1)))
-    (λ vs r o q. ap (λ (x : Record (List ℕ)). x .before) (q .1 .1)))
-    (λ m r vm o. tells m r vm (o .0 .1) (o .1 .0 .1, o .1 .1 .0 .1)))
-    (λ r o. record { before = o .1 .0 .0; short = o .1 .1 .0 .0 .0; letters = o .1 .1 .0 .0 .1; after = o .1 .1 .1 .0 .0 })
-    (λ r o. let s = marks r in (below-all r, ((o .before, s .0), (((o .short, o .letters), s .1 .0), ((o .after, s .1 .1), refl)))))
-    (λ r o.
-    ap (λ (l : List ℕ). mapOf (partsBytes layout r) ∷ l)
-    (ap (λ (l : List ℕ). joined (front r) ++ (nameBytes (r .name) ++ l)) (append-nil (joined (fieldsBytes (layout .after) (r .after)))) ∙ sym (joined-both (front r) (rest r))))
-  where
-    -- the fields before the name, and the name with the fields after it
-    front : Record (List ℕ) → List (List ℕ)
-    front r = fieldsBytes (layout .before) (r .before)
+module _ (layout : Layout) where
+  -- the parts before the name, and the name with those after it
+  abbrev pub partsBefore : Record (List ℕ) → List (List ℕ)
+  partsBefore r = fieldsBytes (layout .before) (r .before)
 
-    rest : Record (List ℕ) → List (List ℕ)
-    rest r = nameBytes (r .name) ∷ fieldsBytes (layout .after) (r .after)
+  abbrev pub partsFrom : Record (List ℕ) → List (List ℕ)
+  partsFrom r = nameBytes (r .name) ∷ fieldsBytes (layout .after) (r .after)
 
-    all-bits : (r : Record (List ℕ)) → length (partsBytes layout r) ≡ bits layout
-    all-bits r = length-append (front r) (rest r) ∙ omega (arith, length-fields (layout .before) (r .before), length-fields (layout .after) (r .after))
+  pub record-parts : (r : Record (List ℕ)) → writeRecord layout r ≡ mapOf (partsBytes layout r) ∷ joined (partsBefore r) ++ joined (partsFrom r)
+  unfolding writeRecord partsBytes
+  record-parts r = ap (λ (l : List ℕ). mapOf (partsBytes layout r) ∷ l) (joined-both (partsBefore r) (partsFrom r))
 
-    below-all : (r : Record (List ℕ)) → mapOf (partsBytes layout r) < 2 ^ bits layout
-    below-all r = subst (λ (x : ℕ). mapOf (partsBytes layout r) < 2 ^ x) (all-bits r) (map-below (partsBytes layout r))
+  all-bits : (r : Record (List ℕ)) → length (partsBytes layout r) ≡ bits layout
+  unfolding partsBytes
+  all-bits r = length-append (partsBefore r) (partsFrom r) ∙ omega (arith, length-fields (layout .before) (r .before), length-fields (layout .after) (r .after))
 
-    -- the name's bit is the one after those of the fields before it
-    after-front : (r : Record (List ℕ)) → 0 + length (front r) ≡ nameBit layout
-    after-front r = omega (arith, length-fields (layout .before) (r .before))
+  pub below-all : (r : Record (List ℕ)) → mapOf (partsBytes layout r) < 2 ^ bits layout
+  below-all r = subst (λ (x : ℕ). mapOf (partsBytes layout r) < 2 ^ x) (all-bits r) (map-below (partsBytes layout r))
 
-    tells : (m : ℕ) (r : Record (List ℕ)) → m < 2 ^ bits layout → Marked (front r) m 0 → Marked (rest r) m (nameBit layout) → mapOf (partsBytes layout r) ≡ m
-    tells m r vm o p =
-        let all = marked-both (front r) (rest r) m 0 o (subst (λ (x : ℕ). Marked (rest r) m x) (sym (after-front r)) p) in
-        sym (sym (div-one m) ∙ marked-map (partsBytes layout r) m 0 (subst (λ (x : ℕ). m < 2 ^ x) (sym (all-bits r) ∙ omega arith) vm) all)
+  -- the name's bit is the one after those of the fields before it
+  bits-before : (r : Record (List ℕ)) → 0 + length (partsBefore r) ≡ nameBit layout
+  bits-before r = omega (arith, length-fields (layout .before) (r .before))
 
-    marks : (r : Record (List ℕ)) → Marked (front r) (mapOf (partsBytes layout r)) 0 × Marked (rest r) (mapOf (partsBytes layout r)) (nameBit layout)
-    marks r =
-        let m = mapOf (partsBytes layout r) in
-        let o = both-marked (front r) (rest r) m 0 (map-marked (partsBytes layout r) m 0 (div-one m)) in
-        (o .0, subst (λ (x : ℕ). Marked (rest r) m x) (after-front r) (o .1))
+  tells : (m : ℕ) (r : Record (List ℕ)) → m < 2 ^ bits layout → Marked (partsBefore r) m 0 → Marked (partsFrom r) m (nameBit layout) → mapOf (partsBytes layout r) ≡ m
+  unfolding partsBytes
+  tells m r vm o p =
+      let all = marked-both (partsBefore r) (partsFrom r) m 0 o (subst (λ (x : ℕ). Marked (partsFrom r) m x) (sym (bits-before r)) p) in
+      sym (sym (div-one m) ∙ marked-map (partsBytes layout r) m 0 (subst (λ (x : ℕ). m < 2 ^ x) (sym (all-bits r) ∙ omega arith) vm) all)
+
+  -- the map of a record marks what is written of it
+  pub marks : (r : Record (List ℕ)) → Marked (partsBefore r) (mapOf (partsBytes layout r)) 0 × Marked (partsFrom r) (mapOf (partsBytes layout r)) (nameBit layout)
+  unfolding partsBytes
+  marks r =
+      let m = mapOf (partsBytes layout r) in
+      let o = both-marked (partsBefore r) (partsFrom r) m 0 (map-marked (partsBytes layout r) m 0 (div-one m)) in
+      (o .0, subst (λ (x : ℕ). Marked (partsFrom r) m x) (bits-before r) (o .1))
+
+  pub record-lawful : (count number : ℕ) → All (Roomy count number) (layout .before) → All (Roomy count number) (layout .after) → 2 ^ bits layout ≤ 256 → layout .longest < 256
+      → Lawful (λ f at. recordAt (bytesIn f) layout count number f at) (writeRecord layout) (ValidRecord layout count number)
+  unfolding recordAt joined
+  record-lawful count number room room′ few small =
+      restate
+      (seq-lawful (λ r. mapOf (partsBytes layout r)) (map-lawful (bits layout) few)
+      (λ m vm. seq-lawful (λ r. r .before) (fields-lawful (layout .before) count number m 0 room)
+      (λ vs o. seq-lawful (λ r. r .name) (name-field-lawful (member m (nameBit layout)) (layout .longest) small)
+      (λ s os. seq-lawful (λ r. r .after) (fields-lawful (layout .after) count number m (suc (nameBit layout)) room′)
+      (λ ws ow. pure-lawful (record { before = vs; name = s; after = ws }))
+      (λ ws r ow q. ap (λ (x : Record (List ℕ)). x .after) q))
+      (λ s r os q. ap (λ (x : Record (List ℕ)). x .name) (q .1)))
+      (λ vs r o q. ap (λ (x : Record (List ℕ)). x .before) (q .1 .1)))
+      (λ m r vm o. tells m r vm (o .0 .1) (o .1 .0 .1, o .1 .1 .0 .1)))
+      (λ r o. record { before = o .1 .0 .0; short = o .1 .1 .0 .0 .0; letters = o .1 .1 .0 .0 .1; after = o .1 .1 .1 .0 .0 })
+      (λ r o. let s = marks r in (below-all r, ((o .before, s .0), (((o .short, o .letters), s .1 .0), ((o .after, s .1 .1), refl)))))
+      (λ r o.
+      ap (λ (l : List ℕ). mapOf (partsBytes layout r) ∷ (joined (partsBefore r) ++ (nameBytes (r .name) ++ l))) (append-nil (joined (fieldsBytes (layout .after) (r .after)))) ∙ sym (record-parts r))

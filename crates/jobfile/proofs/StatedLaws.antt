@@ -1,7 +1,8 @@
 -- What is known of the job that a file states, by the layout of its kind. Assumes nothing.
-use mathlib.Core.Path.{_≡_, ap, subst}
+use mathlib.Core.Path.{_≡_, refl, ap, subst}
+use mathlib.Core.Option.{some}
 use mathlib.Core.List.{List, [], _∷_}
-use Prim.Native.Nat.{ℕ, zero, suc, _^_, _<_}
+use Prim.Native.Nat.{ℕ, zero, suc, _^_, _≤_, _<_}
 use native.Mathlib.Omega.{arith}
 use lib.ListN.{length, getD, length-map}
 use lib.Pow.{pow-pos}
@@ -9,8 +10,8 @@ use borrow.Author.Tests.{eqb-true}
 use Rattle.reading.specs.Got.{got}
 use Rattle.jobfile.specs.Layout.{counted, Field, set, amount, Layout, choice, fitting, kinds, layoutIn, layoutOf}
 use Rattle.jobfile.specs.Job.{Record, Job, column}
-use Rattle.jobfile.specs.Read.{readJob, fittings}
-use Rattle.jobfile.specs.Valid.{AllFrom, Bytes, Fits, ValidRecord}
+use Rattle.jobfile.specs.Read.{readJob, choices, fittings}
+use Rattle.jobfile.specs.Valid.{Each, AllFrom, Bytes, Fits, ValidRecord}
 use Rattle.jobfile.proofs.FileLaws.{each-at, Body}
 use Rattle.jobfile.proofs.Theorems.{body-of, valid, kind-taken}
 
@@ -25,7 +26,44 @@ column-below layout count k bytes e i (r ∷ rs) o zero =
     subst (λ (x : Field). Fits count i x (getD (r .before) k 0)) e (each-at (Fits count i) (amount 0) 0 (omega arith) (layout .before) (r .before) (o .0 .before) k)
 column-below layout count k bytes e i (r ∷ rs) o (suc a) = column-below layout count k bytes e (suc i) rs (o .1) a
 
--- what is read as a fitting has its layout
+-- ---- by the layout of a choice
+
+pub choice-known : {job : Job (List ℕ)} → Body choice job → layoutOf (job .kind) ≡ some choice
+unfolding choice kinds layoutIn
+choice-known ok = ap layoutOf (ok .kind)
+
+-- it has two counts and one head, and in a record two fields before the name and none after it
+pub choice-counts : (counts : List ℕ) → Each (λ c v. v ≤ c .limit) (choice .counts) counts → counts ≡ getD counts 0 0 ∷ getD counts 1 0 ∷ []
+unfolding choice
+choice-counts [] o = absurd o
+choice-counts (n ∷ []) o = absurd (o .1)
+choice-counts (n ∷ w ∷ []) o = refl
+choice-counts (n ∷ w ∷ x ∷ l) o = absurd (o .1 .1)
+
+pub choice-head : (w : ℕ) (heads : List ℕ) → Each (λ bytes v. v < 2 ^ w) (choice .heads) heads → heads ≡ getD heads 0 0 ∷ []
+unfolding choice
+choice-head w [] o = absurd o
+choice-head w (h ∷ []) o = refl
+choice-head w (h ∷ x ∷ l) o = absurd (o .1)
+
+pub choice-fields : (w number : ℕ) (fields : List ℕ) → Each (Fits w number) (choice .before) fields → fields ≡ getD fields 0 0 ∷ getD fields 1 0 ∷ []
+unfolding choice
+choice-fields w number [] o = absurd o
+choice-fields w number (a ∷ []) o = absurd (o .1)
+choice-fields w number (a ∷ b ∷ []) o = refl
+choice-fields w number (a ∷ b ∷ x ∷ l) o = absurd (o .1 .1)
+
+pub choice-after : (w number : ℕ) (fields : List ℕ) → Each (Fits w number) (choice .after) fields → fields ≡ []
+unfolding choice
+choice-after w number [] o = refl
+choice-after w number (a ∷ l) o = absurd o
+
+-- ---- what is read as a choice has its layout, and so has a fitting
+
+pub choice-stated : (f : List ℕ) → Bytes f → {job : Job (List ℕ)} {end : ℕ} → readJob choices f ≡ got job end → Body choice job
+unfolding choice kinds layoutIn
+choice-stated f bytes {job} e = body-of job (valid choices f bytes e) (ap layoutOf (eqb-true (job .kind) 67 (kind-taken choices f bytes e)))
+
 pub fitting-stated : (f : List ℕ) → Bytes f → {job : Job (List ℕ)} {end : ℕ} → readJob fittings f ≡ got job end → Body fitting job
 unfolding choice fitting kinds layoutIn
 fitting-stated f bytes {job} e = body-of job (valid fittings f bytes e) (ap layoutOf (eqb-true (job .kind) 70 (kind-taken fittings f bytes e)))

@@ -1,6 +1,6 @@
 -- The job that a file states (docs/RULES.md, "Job files"): its kind, its counts with the horizon, its sets, and its records.
 -- N is what a name is taken for; in the job itself it is a list of bytes. What a file leaves out is the empty set, no amount, or no name.
-use mathlib.Core.List.{List, map}
+use mathlib.Core.List.{List, [], map}
 use Prim.Native.Nat.{ℕ}
 use lib.ListN.{getD}
 
@@ -15,6 +15,10 @@ pub record Job (N : Type 0) : Type 0 where
   pub counts : List ℕ
   pub heads : List ℕ
   pub records : List (Record N)
+
+-- a record that states nothing
+abbrev pub noRecord : Record (List ℕ)
+noRecord = record { before = []; name = []; after = [] }
 
 -- field k of each record, of those before the name; and the name of each record
 abbrev pub column : {N : Type 0} → ℕ → List (Record N) → List ℕ

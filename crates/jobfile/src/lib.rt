@@ -21,7 +21,7 @@ use records::Kind;
 use records::WISH_BYTES;
 
 // The kind of a choice file: its first byte.
-const CHOICE: u8 = 67;
+pub const CHOICE: u8 = 67;
 
 // The kind of a fitting file.
 const FITTING: u8 = 70;

@@ -28,7 +28,7 @@ use Rattle.calls.specs.declared.PlanAnswer.{PlanAnswer}
 use Rattle.calls.specs.Choose.{Chosen, chooseIn, chooseOf}
 use Rattle.calls.specs.Offer.{offerIn, offerOf}
 use Rattle.calls.specs.Plan.{planIn, planOf, planTold, Buffer}
-use Rattle.calls.proofs.CallLaws.{on-job}
+use Rattle.arguments.proofs.FileLaws.{on-job}
 use Rattle.report.specs.Outcome.{Result, selected, planned, mapped, blankWords, RoundWords, outcomeOf, RoundsFit}
 
 -- ---- a file of another kind is refused at its first byte, as the empty file is

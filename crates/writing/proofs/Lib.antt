@@ -1,0 +1,2 @@
+-- The laws that the writer is proved with.
+pub mod PutLaws
