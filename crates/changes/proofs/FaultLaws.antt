@@ -132,7 +132,7 @@ module _ (layout : Layout) (sound : Sound layout) (job : Job (List ℕ)) (ok : B
         item j f at = recordAt (bytesIn f) layout (getD (job .counts) 1 0) j f at
 
     -- record i, as it is, and room for what its fields hold
-    valid-here : ValidRecord layout (getD (job .counts) 1 0) i (here job i)
+    pub valid-here : ValidRecord layout (getD (job .counts) 1 0) i (here job i)
     valid-here = all-at (ValidRecord layout (getD (job .counts) 1 0)) noRecord 0 i i (omega arith) (job .records) (ok .records) (omega (arith, ok .size))
 
     roomy-here : All (Roomy (getD (job .counts) 1 0) i) (layout .before)

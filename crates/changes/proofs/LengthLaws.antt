@@ -1,5 +1,5 @@
 -- How long a file is after a change: as long as before, but for the part that is changed. Assumes nothing.
-use mathlib.Core.Path.{_≡_, ap, _∙_}
+use mathlib.Core.Path.{_≡_, refl, sym, ap, ap₂, _∙_}
 use mathlib.Core.Logic.{_≢_}
 use mathlib.Core.Bool.{false}
 use mathlib.Core.List.{List, [], _∷_, _++_, append-nil}
@@ -9,17 +9,17 @@ use lib.ListN.{length, getD, drop, length-append}
 use lib.Seq.{getD-drop}
 use borrow.Author.Tests.{leb-false}
 use Rattle.jobfile.specs.Layout.{choice}
-use Rattle.jobfile.specs.Job.{Record, noRecord, Job, size, wishCount}
+use Rattle.jobfile.specs.Job.{Record, noRecord, Job, column, size, wishCount, wishes, clashes}
 use Rattle.jobfile.specs.Write.{bytesOf, fieldBytes, nameBytes, fieldsBytes, partsBytes, joined, writeRecord, writeEach, writeAll, writeBody, writeBy, write}
-use Rattle.jobfile.specs.Valid.{ValidRecord, Valid}
-use Rattle.jobfile.proofs.FileLaws.{all-at, Body}
+use Rattle.jobfile.specs.Valid.{Valid}
+use Rattle.jobfile.proofs.FileLaws.{choice-sound, Body}
 use Rattle.jobfile.proofs.StatedLaws.{choice-known, choice-fields}
 use Rattle.jobfile.proofs.Theorems.{body-of}
-use Rattle.changes.specs.Change.{Change, newOrder, newWishes, newClashes, newName, alter, withField, withName, changed, isAbsent, newFile}
+use Rattle.changes.specs.Change.{Change, newOrder, newWishes, newClashes, newName, alter, withField, withName, withRecord, changed, isAbsent, newFile}
 use Rattle.changes.specs.Places.{setLength, partBefore, partAfter}
 use Rattle.changes.proofs.AlterLaws.{alter-here, alter-other}
 use Rattle.changes.proofs.ChangeLaws.{here, field-here, name-here}
-use Rattle.changes.proofs.FaultLaws.{set-length, counts-length, heads-length}
+use Rattle.changes.proofs.FaultLaws.{valid-here, set-length, counts-length, heads-length}
 
 -- all records, one of which is another
 all-length : {A : Type 0} (write : A → List ℕ) (none : A) (i : ℕ) (to : A → A) (l : List A) → i < length l
@@ -65,63 +65,51 @@ write-length job ok =
 
 module _ (job : Job (List ℕ)) (ok : Body choice job) where
   module _ (i : ℕ) (there : i < size job) where
-    within : i < length (job .records)
-    within = omega (arith, ok .size)
+    -- the sets of article i
+    pub sets-here : here job i .before ≡ getD (wishes job) i 0 ∷ getD (clashes job) i 0 ∷ []
+    sets-here =
+        choice-fields (wishCount job) i (here job i .before) (valid-here choice choice-sound job ok i there .before)
+        ∙ ap₂ (λ (a b : ℕ). a ∷ b ∷ []) (sym (field-here job 0 i)) (sym (field-here job 1 i))
 
-    two-fields : length (here job i .before) ≡ 2
-    two-fields =
-        ap length (choice-fields (wishCount job) i (here job i .before) (all-at (ValidRecord choice (wishCount job)) noRecord 0 i i (omega arith) (job .records) (ok .records) within .before))
+    -- another article i, by the length of its record
+    record-changed : (to : Record (List ℕ) → Record (List ℕ)) → Valid (withRecord i to job)
+        → length (write (withRecord i to job)) + length (writeRecord choice (here job i)) ≡ length (write job) + length (writeRecord choice (to (here job i)))
+    record-changed to valid =
+        omega (
+          arith,
+          write-length job ok,
+          write-length (withRecord i to job) (body-of (withRecord i to job) valid (choice-known ok)),
+          all-length (writeRecord choice) noRecord i to (job .records) (omega (arith, ok .size)),
+        )
 
-    -- another record i
-    record-changed : (to : Record (List ℕ) → Record (List ℕ)) → length (writeAll (writeRecord choice) (alter i to (job .records))) + length (writeRecord choice (here job i))
-        ≡ length (writeAll (writeRecord choice) (job .records)) + length (writeRecord choice (to (here job i)))
-    record-changed to = all-length (writeRecord choice) noRecord i to (job .records) within
-
-    field-new : (k v : ℕ) → k < 2 → getD (withField k v (here job i) .before) k 0 ≡ v
-    field-new k v l = alter-here k (λ old. v) (here job i .before) 0 (omega (arith, two-fields))
-
-    field-old : (k m v : ℕ) → m ≢ k → getD (withField k v (here job i) .before) m 0 ≡ getD (here job i .before) m 0
-    field-old k m v d = alter-other k m (λ old. v) (here job i .before) 0 d
+    -- with another set k of it; the other one of the two is m
+    set-changed : (k m v : ℕ) → k < 2 → m ≢ k → ((l : List ℕ) → setLength (getD l 0 0) + setLength (getD l 1 0) ≡ setLength (getD l k 0) + setLength (getD l m 0)) → Valid (withRecord i (withField k v) job)
+        → length (write (withRecord i (withField k v) job)) + setLength (getD (column k (job .records)) i 0) ≡ length (write job) + setLength v
+    set-changed k m v few other both valid =
+        let old = here job i .before in
+        let new = withField k v (here job i) .before in
+        omega (
+          arith,
+          record-changed (withField k v) valid,
+          record-length (here job i),
+          record-length (withField k v (here job i)),
+          both old,
+          both new,
+          ap setLength (alter-here k (λ u. v) old 0 (omega (arith, ap length sets-here))),
+          ap setLength (alter-other k m (λ u. v) old 0 other),
+          ap setLength (field-here job k i),
+        )
 
   -- the file after a change that fits
   pub changed-length : (change : Change) → isAbsent change job ≡ false → Valid (changed change job) → length (newFile change job) + partBefore change job ≡ length (write job) + partAfter change
   changed-length (newOrder v) present valid =
       omega (arith, write-length job ok, write-length (changed (newOrder v) job) (body-of (changed (newOrder v) job) valid (choice-known ok)))
-  changed-length (newWishes i v) present valid =
-      let h = leb-false (size job) i present in
-      let new = withField 0 v (here job i) in
-      omega (
-        arith,
-        write-length job ok,
-        write-length (changed (newWishes i v) job) (body-of (changed (newWishes i v) job) valid (choice-known ok)),
-        record-changed i h (withField 0 v),
-        record-length (here job i),
-        record-length new,
-        ap setLength (field-new i h 0 v (omega arith)),
-        ap setLength (field-old i h 0 1 v (λ e. let z : ⊥ = omega arith in z)),
-        ap setLength (field-here job 0 i),
-      )
-  changed-length (newClashes i v) present valid =
-      let h = leb-false (size job) i present in
-      let new = withField 1 v (here job i) in
-      omega (
-        arith,
-        write-length job ok,
-        write-length (changed (newClashes i v) job) (body-of (changed (newClashes i v) job) valid (choice-known ok)),
-        record-changed i h (withField 1 v),
-        record-length (here job i),
-        record-length new,
-        ap setLength (field-new i h 1 v (omega arith)),
-        ap setLength (field-old i h 1 0 v (λ e. let z : ⊥ = omega arith in z)),
-        ap setLength (field-here job 1 i),
-      )
+  changed-length (newWishes i v) present valid = set-changed i (leb-false (size job) i present) 0 1 v (omega arith) (λ e. let z : ⊥ = omega arith in z) (λ l. refl) valid
+  changed-length (newClashes i v) present valid = set-changed i (leb-false (size job) i present) 1 0 v (omega arith) (λ e. let z : ⊥ = omega arith in z) (λ l. omega arith) valid
   changed-length (newName i name) present valid =
-      let h = leb-false (size job) i present in
       omega (
         arith,
-        write-length job ok,
-        write-length (changed (newName i name) job) (body-of (changed (newName i name) job) valid (choice-known ok)),
-        record-changed i h (withName name),
+        record-changed i (leb-false (size job) i present) (withName name) valid,
         record-length (here job i),
         record-length (withName name (here job i)),
         ap (λ (s : List ℕ). length (nameBytes s)) (name-here job i),

@@ -17,11 +17,11 @@ use Rattle.reading.specs.declared.Reason.the-variants.{AbsentMember, LongName, 
 use Rattle.reading.specs.Reasons.{numberOf, answers}
 use Rattle.reading.specs.Got.{Got, got, refused}
 use Rattle.jobfile.specs.Layout.{choice}
-use Rattle.jobfile.specs.Job.{Record, noRecord, Job, size, wishCount, wishes, clashes}
+use Rattle.jobfile.specs.Job.{Record, noRecord, Job, size, wishCount}
 use Rattle.jobfile.specs.Read.{readJob, choices}
-use Rattle.jobfile.specs.Valid.{ValidRecord, Valid}
-use Rattle.jobfile.proofs.FileLaws.{all-at, Body}
-use Rattle.jobfile.proofs.StatedLaws.{choice-head, choice-fields}
+use Rattle.jobfile.specs.Valid.{Valid}
+use Rattle.jobfile.proofs.FileLaws.{Body}
+use Rattle.jobfile.proofs.StatedLaws.{choice-head}
 use Rattle.jobfile.proofs.Theorems.{read-back}
 use Rattle.filter.specs.Filter.{outside}
 use Rattle.arguments.specs.Answers.{Answer, refusal, value, onJob, unless, unlessAt, passed, afterTests, refusedBy, said, accepted}
@@ -29,8 +29,9 @@ use Rattle.arguments.specs.Tests.{roomTest}
 use Rattle.changes.specs.Change.{Change, newOrder, newWishes, newClashes, newName, alter, withField, withName, withRecord, changed, isAbsent, newFile}
 use Rattle.changes.specs.Places.{orderPlace, wishesPlace, clashesPlace, namePlace}
 use Rattle.changes.proofs.AlterLaws.{alter-length, alter-here, alter-other}
-use Rattle.changes.proofs.ChangeLaws.{here, field-here, name-here, order-same, wishes-same, clashes-same, name-same, order-back, wishes-back, clashes-back, name-back}
+use Rattle.changes.proofs.ChangeLaws.{here, name-here, order-same, wishes-same, clashes-same, name-same, order-back, wishes-back, clashes-back, name-back}
 use Rattle.changes.proofs.FitLaws.{order-fits, wishes-fit, clashes-fit, name-fits}
+use Rattle.changes.proofs.LengthLaws.{sets-here}
 use Rattle.changes.proofs.FaultLaws.{order-off, wishes-off, clashes-off, name-off}
 use Rattle.drafts.specs.Draft.{drafted, draftIn, roomFor}
 use Rattle.demands.specs.Demands.{Exactly, Refuses, Fault, Off, shortBuffer}
@@ -249,20 +250,11 @@ module _ (change : Change) (buffer : List ℕ) (job : Job (List ℕ)) (number pl
 
 module _ (job : Job (List ℕ)) (ok : Body choice job) where
   module _ (i : ℕ) (h : i < size job) where
-    within : i < length (job .records)
-    within = omega (arith, ok .size)
-
-    -- the two sets of article i
-    sets-here : here job i .before ≡ getD (wishes job) i 0 ∷ getD (clashes job) i 0 ∷ []
-    sets-here =
-        choice-fields (wishCount job) i (here job i .before) (all-at (ValidRecord choice (wishCount job)) noRecord 0 i i (omega arith) (job .records) (ok .records) within .before)
-        ∙ ap₂ (λ (a b : ℕ). a ∷ b ∷ []) (sym (field-here job 0 i)) (sym (field-here job 1 i))
-
     -- another article i, and the others as they were
     only-article : (to : Record (List ℕ) → Record (List ℕ)) {sets name : List ℕ} → to (here job i) .before ≡ sets → to (here job i) .name ≡ name → to (here job i) .after ≡ here job i .after
         → OnlyArticle i sets name job (withRecord i to job)
     only-article to s n a = (
-      alter-here i to (job .records) noRecord within ∙ (λ k. record { before = s k; name = n k; after = a k }),
+      alter-here i to (job .records) noRecord (omega (arith, ok .size)) ∙ (λ k. record { before = s k; name = n k; after = a k }),
       alter-length i to (job .records),
       λ j d. alter-other i j to (job .records) noRecord d,
     )
@@ -272,13 +264,13 @@ module _ (job : Job (List ℕ)) (ok : Body choice job) where
   only-change (newOrder v) present = (ap (alter 0 (λ old. v)) (choice-head (wishCount job) (job .heads) (ok .heads)), refl, refl, refl)
   only-change (newWishes i v) present =
       let h = leb-false (size job) i present in
-      (only-article i h (withField 0 v) (ap (alter 0 (λ old. v)) (sets-here i h)) (sym (name-here job i)) refl, (refl, refl, refl))
+      (only-article i h (withField 0 v) (ap (alter 0 (λ old. v)) (sets-here job ok i h)) (sym (name-here job i)) refl, (refl, refl, refl))
   only-change (newClashes i v) present =
       let h = leb-false (size job) i present in
-      (only-article i h (withField 1 v) (ap (alter 1 (λ old. v)) (sets-here i h)) (sym (name-here job i)) refl, (refl, refl, refl))
+      (only-article i h (withField 1 v) (ap (alter 1 (λ old. v)) (sets-here job ok i h)) (sym (name-here job i)) refl, (refl, refl, refl))
   only-change (newName i name) present =
       let h = leb-false (size job) i present in
-      (only-article i h (withName name) (sets-here i h) refl refl, (refl, refl, refl))
+      (only-article i h (withName name) (sets-here job ok i h) refl refl, (refl, refl, refl))
 
 one-article : (i : ℕ) (sets name : List ℕ) (old new other : Job (List ℕ)) → OnlyArticle i sets name old new × SameHead old new → OnlyArticle i sets name old other × SameHead old other → new ≡ other
 one-article i sets name old new other ((here, size, others), (k, c, h)) ((here′, size′, others′), (k′, c′, h′)) =
