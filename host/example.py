@@ -30,7 +30,7 @@ def told(library, file):
             return 3, ["no such plan"]
         return 0, [f"round {k}:{names(library, file, steps)}" for k, steps in enumerate(answer.rounds, 1)]
     answer = library.choose(file)
-    if answer is kitchen.NoSelection:
+    if isinstance(answer, kitchen.NoSelection):
         return 3, ["no such kitchen"]
     chosen, aside = (names(library, file, members) for members in answer)
     return 0, [f"chosen:{chosen}", f"set aside:{aside}"]

@@ -5,14 +5,14 @@
     job = kitchen.choice(2, {0, 1}, [kitchen.article({0}, name="Larder"), kitchen.article({1}, name="Smooth front")])
     shop = kitchen.Library()
     answer = shop.choose(kitchen.written(job))
-    if answer is kitchen.NoSelection:
+    if isinstance(answer, kitchen.NoSelection):
         print("no such kitchen")
     else:
         print(sorted(answer.articles))
 
 A job file is bytes; docs/RULES.md says how it is laid out, and include/kitchen.h what each call takes and answers. Sets
-are Python sets of numbers. `NoSelection` and `NoPlan` are answers. `Refused(number, place)` is raised if a call is
-turned down, and `Unusable` if a job cannot be written or the library cannot be used.
+are Python sets of numbers. A `NoSelection(place)` and `NoPlan` are answers. `Refused(number, place)` is raised if a call
+is turned down, and `Unusable` if a job cannot be written or the library cannot be used.
 
 What is built, written and read here is plain Python and only tested; what `Library` answers is what the proved calls
 answered for these very bytes.
@@ -23,7 +23,7 @@ import pathlib
 from collections import namedtuple
 
 # The number of the interface in include/kitchen.h. A library of another number is not used.
-VERSION = 3
+VERSION = 4
 
 # A kind of job: its first byte and word, its records and what sets are counted against, the limit of both counts, the
 # limit of the horizon if there is one, the bytes of a set, the sets of its head and those of a record.
@@ -40,8 +40,12 @@ LONGEST_NAME = 32
 Job = namedtuple("Job", "kind members horizon sets records")
 Record = namedtuple("Record", "sets name")
 
-# What is answered. Both of a selection are sets of articles; the rounds of a plan are sets of steps, in order.
+# What is answered. Both of a selection are sets of articles; if there is none, the place is the index of the first goal
+# that falls short, and the count of goals if none does. A pass leaves a set of articles live; its sum is that of all
+# contributions before it. The rounds of a plan are sets of steps, in order.
 Selection = namedtuple("Selection", "articles aside")
+NoSelection = namedtuple("NoSelection", "place")
+Passed = namedtuple("Passed", "live sum")
 Plan = namedtuple("Plan", "rounds")
 
 
@@ -55,7 +59,7 @@ class Answer:
         return self.name
 
 
-NoSelection, NoPlan = Answer("NoSelection"), Answer("NoPlan")
+NoPlan = Answer("NoPlan")
 NO_SELECTION, NO_PLAN, NO_NAME = 14, 15, 16  # their numbers in docs/RULES.md
 
 
@@ -300,7 +304,7 @@ def group_bytes(groups):
 
 def own_goals(file):
     """The whole order as the only goal, and none if it is empty. What is no choice file has none: the call refuses it."""
-    job = Reader(file).job
+    job = Reader(as_bytes(file)).job
     return [job.sets[0]] if job and job.kind is CHOICE and job.sets[0] else []
 
 
@@ -349,28 +353,43 @@ class Library:
         return bytes(groups)[: file[1]]
 
     def filter_pass(self, file, live, goal, groups=None):
-        """The live articles that are supported. Without groups our own partition is lent."""
+        """What a pass leaves live, and the sum of the contributions by which it was made.
+
+        If the sum is below the count of the goal's wishes, every selection has an article that is not live here. Without
+        groups our own partition is lent.
+        """
         groups = self.partition(file) if groups is None else group_bytes(groups)
-        return members_of(self.answered("pass", file, groups, word(number_of(live)), word(number_of(goal)))[0])
+        left, total = self.answered("pass", file, groups, word(number_of(live)), word(number_of(goal)))
+        return Passed(members_of(left), total)
+
+    def bound(self, file, goal, groups=None):
+        """Articles no two of which clash carry no more wishes of the goal than this; it is told without a search.
+
+        It is the sum of a pass with all articles live. If it is below the count of the goal's wishes, there is no
+        selection; if it is not, there may be none, either. A goal that is empty or not within the order is refused by 13.
+        """
+        return self.filter_pass(file, range(len(self.partition(file))), goal, groups).sum
 
     def choose(self, file, floor=0, goals=None, groups=None):
-        """The smallest selection, by its number, that is not below the floor, with its set aside; or NoSelection.
+        """The smallest selection, by its number, that is not below the floor, with its set aside; or a NoSelection.
 
-        Without groups our own partition is lent; without goals the whole order is the only one (none if it is empty).
+        If the place of that is below the count of the goals, there is no selection at all, whatever the floor. Without
+        groups our own partition is lent; without goals the whole order is the only one (none if it is empty), so the place
+        is 0 if the order falls short, and 1 if it does not.
         """
         groups = self.partition(file) if groups is None else group_bytes(groups)
         goals = own_goals(file) if goals is None else goals
         lent = (ctypes.c_uint64 * len(goals))(*(word(number_of(goal)).value for goal in goals))
         status, first, second = self.call("choose", file, groups, lent, word(floor))
         if status == NO_SELECTION:
-            return NoSelection
+            return NoSelection(first)
         if status:
             raise Refused(status, first)
         return Selection(members_of(first), members_of(second))
 
     def selections(self, file, floor=0):
         """All selections at or above the floor, by rising number. There may be very many: take as many as are wanted."""
-        while (answer := self.choose(file, floor)) is not NoSelection:
+        while isinstance(answer := self.choose(file, floor), Selection):
             yield answer
             floor = number_of(answer.articles) + 1
             if floor > LARGEST:

@@ -6,7 +6,7 @@
  *     tools/library
  *
  * which makes target/lib/libkitchen.a, an archive to link, and target/lib/libkitchen.so, a shared library for languages
- * that load one; its soname is libkitchen.so.3. `make install` puts both and this header where your system has such
+ * that load one; its soname is libkitchen.so.4. `make install` puts both and this header where your system has such
  * things, and in the folder that `make dist` packs both are in lib/.
  *
  * A program in C that chooses, from a job file on standard input, is built by
@@ -83,9 +83,9 @@
 #ifndef KITCHEN_H
 #define KITCHEN_H
 
-/* Goes up whenever a declaration or a number below changes. kitchen_version() tells the number of the library that
- * was built. */
-#define KITCHEN_VERSION 3
+/* Goes up whenever a declaration or a number below changes, or the meaning of a word of `out`. kitchen_version() tells
+ * the number of the library that was built. */
+#define KITCHEN_VERSION 4
 
 #include <stddef.h>
 #include <stdint.h>
@@ -139,14 +139,17 @@ uint32_t kitchen_version(void);
  * out: 0, 0 */
 uint32_t kitchen_partition(const uint8_t *file, size_t file_len, uint8_t *groups, size_t groups_len, uint64_t out[2]);
 
-/* A pass of the filter, by the groups lent, for one projection goal.
- * out: the live articles that are supported, 0 */
+/* A pass of the filter, by the groups lent, for one projection goal. If the sum is below the count of the goal's wishes,
+ * every selection has an article that is not live here. It is never above 4,096.
+ * out: what it leaves live, the sum of the contributions by which it was made */
 uint32_t kitchen_pass(const uint8_t *file, size_t file_len, const uint8_t *groups, size_t groups_len, uint64_t live,
                       uint64_t goal, uint64_t out[2]);
 
 /* The smallest selection at or above the floor, after a pass for each goal in turn. Smallest is its number, the sum of
  * 2^i over its articles i, and not the count of them: a selection without the last articles of the file goes before one
- * with them, so what should be preferred comes first. 14 is "no selection".
+ * with them, so what should be preferred comes first. 14 is "no selection"; out[0] is then the index of the
+ * first goal that falls short, which is one whose pass has a sum below the count of its wishes, and goals_len if none
+ * does. So if out[0] < goals_len there is no selection at all, below the floor neither; without goals nothing is said.
  * out: the selection, the set aside */
 uint32_t kitchen_choose(const uint8_t *file, size_t file_len, const uint8_t *groups, size_t groups_len,
                         const uint64_t *goals, size_t goals_len, uint64_t floor, uint64_t out[2]);

@@ -6,9 +6,9 @@
 It takes the files that are stated one by one, the examples of docs/RULES.md among them, with arguments of every sort; then all
 small files of a sort, drawn ones, wide ones, at the edge of the words, and damaged ones: cut at every place, with single bytes
 changed, lengthened, over their limits, with forbidden bits; and some whose plan is long looked for. What is saved is saved once
-more, and back. The same files come in every run. A difference is printed, and ends it with status 1; otherwise it prints how
-much was compared, and what of it mattered. --fault makes the second program err on purpose (FAULTS in rules.py): then a
-difference has to be found.
+more, and back. What falls short is tried on every selection. The same files come in every run. A difference is printed, and ends
+it with status 1; otherwise it prints how much was compared, and what of it mattered. --fault makes the second program err on
+purpose (FAULTS in rules.py): then a difference has to be found.
 """
 
 import argparse
@@ -19,10 +19,11 @@ from itertools import cycle, product
 
 import rules
 from drawn import damaged, drawn_choice, drawn_fitting, drawn_name, full_choice, full_fitting, over_limits
-from drawn import small_choices, small_fittings, walk, wide_choice
+from drawn import small_choices, small_fittings, some, walk, wide_choice
 from library import Library, slices
 from long import LONG as LONG_SEARCHES
-from reader import CHOICE, CHOICES, FITTING, FITTINGS, LONG, NOTHING, A, B, F, G, H, M, N, Refused, counts, step, written
+from reader import CHOICE, CHOICES, FITTING, FITTINGS, LONG, NOTHING, A, Article, B, Choice, F, G, H, M, N, Refused
+from reader import counts, step, written
 from rules import FIELDS, Change, number, of
 
 MARK = {1: 0xA5, 4: 0xA5A5A5A5, 8: 0xA5A5A5A5A5A5A5A5}
@@ -31,6 +32,9 @@ FULL = 2**64 - 1
 # What is asked of the stated files. Names and goals that some of them have, and such that none has.
 NAMES = [b"", b"a", b"b", b"x", b"yz", b"cut", b"cu", b"cuts", LONG, LONG[:-1], LONG + b"y"]
 GOALS = [[], [0], [1], [3], [5], [7], [8], [1, 7], [4, 5, 1], [3, 7, 9, 0]]
+
+# 64 articles, no two of which clash, and each carries all of 64 wishes: no sum is greater than theirs.
+MOST = written(Choice(64, set(range(64)), [Article(set(range(64)), set(), b"")] * 64))
 
 # What is saved: names of these lengths; a change of each sort, for files that need not be in order; and these in turn with one that
 # is wrong for every file: five, so that they do not keep step with the four ways in which a byte is damaged.
@@ -116,6 +120,28 @@ def drawn_change(job, draw, field, article):
     return Change(field, article, of(draw.choice(fitting * 3 + at_the_edge(bound))))
 
 
+# What may fall short
+
+
+def crowded_choice(draw):
+    """Most articles clash, and each carries few wishes: a pass may strike all that carry what a later goal asks for."""
+    n, w = draw.randint(3, 6), draw.randint(2, 5)
+    return Choice(w, set(range(w)), [Article(some(draw, w, 0.3), some(draw, i, 0.8), b"") for i in range(n)])
+
+
+def goals_of(order):
+    """Every projection goal that is in order."""
+    return [goal for goal in range(1, number(order) + 1) if of(goal) <= order]
+
+
+def drawn_lists(order, draw):
+    """Lists of up to four goals: single wishes, and then the whole order; ever more wishes; and goals as they are drawn."""
+    wishes, drawn = sorted(order), draw.sample(sorted(order), min(len(order), 4))
+    yield [*(2**wish for wish in drawn[:3]), number(order)]
+    yield [number(drawn[: k + 1]) for k in range(len(drawn))]
+    yield [number(draw.sample(wishes, draw.randint(1, len(wishes)))) for _ in range(draw.randint(2, 4))]
+
+
 # What is asked
 
 
@@ -152,9 +178,20 @@ class Beside:
         self.same("partition", (file, (1, buffer)), expected, found)
 
     def filter_pass(self, file, groups, live, goal):
-        found, expected = self.answer(lambda left: (number(left), 0), rules.filter_pass, file, groups, of(live), of(goal))
-        self.tally["passes that struck"] += found is not None and number(found) != live
-        self.same("pass", (file, (1, groups), live, goal), expected)
+        """The sum of ours; None if the pass is refused. If it falls short, every selection has an article that is not live."""
+        words = lambda pair: (number(pair[0]), pair[1])
+        found, expected = self.answer(words, rules.filter_pass, file, groups, of(live), of(goal))
+        _, (left, total), _ = self.same("pass", (file, (1, groups), live, goal), expected)
+        if not found:
+            return None
+        count = len(of(goal))
+        self.tally["passes that struck"] += left != live
+        self.tally["passes whose sum is the count"] += total == count
+        self.tally["passes whose sum is over the count"] += total > count
+        self.tally["sums of 4096"] += total == 4096
+        if total < count:
+            self.tally["short passes beside a selection"] += self.excluded("short passes", file, of(live))
+        return total
 
     def choose(self, file, groups, goals, floor):
         lists = [of(goal) for goal in goals]
@@ -164,7 +201,41 @@ class Beside:
             self.tally["choices that set aside"] += bool(found[1])
             self.tally["choices of article 63"] += 63 in found[0]
             self.tally["choices that set article 63 aside"] += 63 in found[1]
-        self.same("choose", (file, (1, groups), (8, goals), floor), expected)
+        status, (place, _), _ = self.same("choose", (file, (1, groups), (8, goals), floor), expected)
+        if status == 14:
+            self.none(file, groups, lists, place, floor)
+
+    def none(self, file, groups, goals, place, floor):
+        """Counts what the place of 14 tells. If it is the index of a goal, there is no selection below the floor, either."""
+        job = rules.read(file, (CHOICE,))
+        if place == len(goals):
+            self.tally["14 at the end of the list" if goals else "14 without goals"] += 1
+            self.tally["14 by the floor alone"] += bool(rules.selections(job))
+            return
+        every = set(range(len(job.articles)))
+        self.tally["14 at a later goal" if place else "14 at the first goal"] += 1
+        self.tally["14 with goals after the short one"] += place + 1 < len(goals)
+        self.tally["14 at a goal that earlier passes made short"] += not rules.falls_short(job, groups, every, goals[place])
+        if floor:
+            self.excluded("short goals", file, every)
+
+    def excluded(self, what, file, articles):
+        """No selection is made of these articles only. Whether there is one of others."""
+        selections = rules.selections(rules.read(file, (CHOICE,)))
+        self.tally[f"{what} tried on every selection"] += 1
+        for selection in selections:
+            if selection <= articles:
+                raise Differ(f"{what}: {file.hex()} has the selection {selection}, made of {articles} only")
+        return bool(selections)
+
+    def bounded(self, file, groups, live, goal):
+        """A pass that is in order. No clash-free set of live articles carries more wishes of the goal than its sum."""
+        total, job = self.filter_pass(file, groups, live, goal), rules.read(file, (CHOICE,))
+        most = max(len(rules.wishes(job, s) & of(goal)) for s in rules.clash_free(job) if s <= of(live))
+        self.tally["sums tried on every set"] += 1
+        self.tally["sums that a set comes up to"] += most == total
+        if most > total:
+            raise Differ(f"pass {file.hex()} {groups} {live} {goal}: the sum is {total}, and one set carries {most}")
 
     def layer(self, file, sort, k, count):
         width, size = (4, 32) if sort == "fact" else (8, 64)
@@ -308,6 +379,16 @@ class Beside:
         for other in (renamed, job._replace(order=of(part())), job._replace(articles=job.articles[:-1])):
             self.compare(file, written(other))
 
+    def reaching(self, file, draw):
+        """Passes and lists of goals, all of them in order, of a file whose order is not empty."""
+        job = rules.read(file, (CHOICE,))
+        n = len(job.articles)
+        for groups in (rules.own_groups(job), list(range(n))):
+            for goals in drawn_lists(job.order, draw):
+                self.bounded(file, groups, draw.choice([2**n - 1, draw.randrange(2**n)]), draw.choice(goals))
+                for floor in (0, FULL):
+                    self.choose(file, groups, goals, floor)
+
     def fitting(self, file, draw):
         job = rules.read(file, (FITTING,))
         self.plan(file, job.horizon + draw.randrange(2))
@@ -349,6 +430,17 @@ class Beside:
                 self.choose(file, groups, goals, floor)
         for place, bit in product(range(len(file)), range(8)):
             self.compare(file, file[:place] + bytes([file[place] ^ 1 << bit]) + file[place + 1 :])
+
+    def reaching_in_full(self, file):
+        """Every live set with every goal, and every list of up to three goals, by our own groups and by groups of one article."""
+        job = rules.read(file, (CHOICE,))
+        n, goals = len(job.articles), goals_of(job.order)
+        for groups in (rules.own_groups(job), list(range(n))):
+            for live, goal in product(range(2**n), goals):
+                self.bounded(file, groups, live, goal)
+            for count, floor in product(range(4), (0, FULL)):
+                for listed in product(goals, repeat=count):
+                    self.choose(file, groups, list(listed), floor)
 
     def saving_in_full(self, file):
         """Every change of a few members, names of every length, and articles that there are not, with values of either sort."""
@@ -440,6 +532,18 @@ def stated(beside):
     beside.tally["calls on stated files"] = beside.tally["comparisons"]
 
 
+def reached(beside):
+    """Small files, drawn ones, and ones of 64 articles, with goals that fall short and such that do not; and the greatest sum."""
+    draw = random.Random(20261117)
+    for file in small_choices():
+        beside.reaching_in_full(file)
+    jobs = [drawn_choice(draw) for _ in range(400)] + [crowded_choice(draw) for _ in range(400)]
+    for job in jobs + [wide_choice(draw) for _ in range(10)]:
+        if job.order:
+            beside.reaching(written(job), draw)
+    beside.filter_pass(MOST, list(range(64)), FULL, FULL)
+
+
 def saved(beside):
     """Small files, drawn ones, and ones of 64 articles, with drawn changes; and the longest, with changes at the edge."""
     draw = random.Random(20261116)
@@ -478,6 +582,7 @@ def run(beside):
         for job in (drawn_choice(draw), drawn_fitting(draw)):
             for file in damaged(written(job), draw):
                 beside.reading(file)
+    reached(beside)
     saved(beside)
     for file in LONG_SEARCHES.values():
         beside.plan(file, 16)

@@ -32,12 +32,13 @@ def plan_text(file, printed):
 
 
 def expected(file, printed):
-    """The name of the outcome, and the text. The file is the first 4,096 bytes."""
+    """The name of the outcome, which has the place of 14, and the text. The file is the first 4,096 bytes."""
     file = file[:4096]
     try:
         return plan_text(file, printed) if file[:1] == bytes([FITTING]) else ("chosen", offer(file))
     except Refused as fault:
-        return f"refused {fault.reason}", f"refused {fault.reason} at {fault.place}\n"
+        told = f"refused {fault.reason} at {fault.place}"
+        return told if fault.reason == 14 else f"refused {fault.reason}", f"{told}\n"
 
 
 def files():

@@ -22,6 +22,8 @@ static const uint8_t A[] = {OF_A}, A_LONGER[] = {OF_A, 0};
 static const uint8_t A_NAMED[] = {A_WITH(3, ONE, TWO_NAMED)};
 /* the articles 0 with wish 0; 1 with wishes 0 and 1, clashing with 0; 2 with wish 2; order {0, 1, 2} */
 static const uint8_t B[] = {67, 3, 3, EIGHT(7), 1, EIGHT(1), 3, EIGHT(3), EIGHT(1), 1, EIGHT(4)};
+/* the articles 0 and 1 of A without the others: both are in one group, and the order {0, 1} falls short */
+static const uint8_t APART[] = {67, 2, 2, EIGHT(3), 1, EIGHT(1), ONE};
 /* the steps 0: needs 0, gives 1, takes 0; 1: needs 1, gives 2; 2: needs 1, gives 3; start {0}, goal {2, 3} */
 #define OF_F(horizon) 70, 3, 4, horizon, FOUR(1), FOUR(12), 7, FOUR(1), FOUR(2), FOUR(1), 3, FOUR(2), FOUR(4), 3, FOUR(2), FOUR(8)
 static const uint8_t F[] = {OF_F(3)}, F_NEAR[] = {OF_F(1)};
@@ -121,9 +123,14 @@ static int partition(void)
 static int pass(void)
 {
     int seen = 0;
-    GIVES(kitchen_pass(SLICE(B), SLICE(GROUPS), 7, 7, out), 0, 6, 0);
-    GIVES(kitchen_pass(SLICE(B), SLICE(GROUPS), 7, 1, out), 0, 7, 0);
-    GIVES(kitchen_pass(SLICE(B), SLICE(GROUPS), 1, 7, out), 0, 0, 0);
+    GIVES(kitchen_pass(SLICE(B), SLICE(GROUPS), 7, 7, out), 0, 6, 3);
+    GIVES(kitchen_pass(SLICE(B), SLICE(GROUPS), 7, 1, out), 0, 7, 1);
+    GIVES(kitchen_pass(SLICE(B), SLICE(GROUPS), 1, 7, out), 0, 0, 1);
+    GIVES(kitchen_pass(SLICE(B), SLICE(GROUPS), 0, 7, out), 0, 0, 0);
+    GIVES(kitchen_pass(SLICE(B), SLICE(BYTES(0, 1, 2)), 7, 7, out), 0, 7, 4); /* each article in a group of its own */
+    GIVES(kitchen_pass(SLICE(A), SLICE(GROUPS), 7, 3, out), 0, 7, 3);
+    GIVES(kitchen_pass(SLICE(APART), SLICE(GROUPS), 3, 3, out), 0, 0, 1);
+    GIVES(kitchen_pass(SLICE(APART), SLICE(GROUPS), 3, 1, out), 0, 1, 1);
     GIVES(kitchen_pass(SLICE(B), GROUPS, 2, 7, 7, out), KITCHEN_SHORT_BUFFER, 0, 0);
     GIVES(kitchen_pass(SLICE(B), SLICE(BYTES(0, 0, 0)), 7, 7, out), KITCHEN_FALSE_PARTITION, 2, 0);
     GIVES(kitchen_pass(SLICE(B), SLICE(GROUPS), 8, 7, out), KITCHEN_ABSENT_ARTICLE, 0, 0);
@@ -138,9 +145,19 @@ static int choose(void)
     GIVES(kitchen_choose(SLICE(A), SLICE(GROUPS), goals, 1, 0, out), 0, 4, 0);
     GIVES(kitchen_choose(SLICE(A), SLICE(GROUPS), goals, 2, 5, out), 0, 5, 0);
     GIVES(kitchen_choose(SLICE(A), SLICE(GROUPS), NULL, 0, 6, out), 0, 6, 0);
-    GIVES(kitchen_choose(SLICE(A), SLICE(GROUPS), goals, 1, 7, out), KITCHEN_NO_SELECTION, 0, 0);
+    GIVES(kitchen_choose(SLICE(A), SLICE(GROUPS), goals, 1, 7, out), KITCHEN_NO_SELECTION, 1, 0);
+    GIVES(kitchen_choose(SLICE(A), SLICE(GROUPS), goals, 2, 7, out), KITCHEN_NO_SELECTION, 2, 0);
+    GIVES(kitchen_choose(SLICE(A), SLICE(GROUPS), NULL, 0, 7, out), KITCHEN_NO_SELECTION, 0, 0);
     GIVES(kitchen_choose(SLICE(A), SLICE(GROUPS), goals, 3, 0, out), KITCHEN_WRONG_GOAL, 2, 0);
     GIVES(kitchen_choose(SLICE(B), SLICE(GROUPS), NUMBERS(7), 1, 0, out), 0, 6, 1);
+    GIVES(kitchen_choose(SLICE(APART), SLICE(GROUPS), NUMBERS(3), 1, 0, out), KITCHEN_NO_SELECTION, 0, 0);
+    GIVES(kitchen_choose(SLICE(APART), SLICE(GROUPS), SLICE(NUMBERS(3, 1)), UINT64_MAX, out), KITCHEN_NO_SELECTION, 0, 0);
+    GIVES(kitchen_choose(SLICE(APART), SLICE(GROUPS), SLICE(NUMBERS(1)), 0, out), KITCHEN_NO_SELECTION, 1, 0);
+    GIVES(kitchen_choose(SLICE(APART), SLICE(GROUPS), SLICE(NUMBERS(1, 3)), 0, out), KITCHEN_NO_SELECTION, 1, 0);
+    GIVES(kitchen_choose(SLICE(APART), SLICE(GROUPS), SLICE(NUMBERS(1, 2)), 0, out), KITCHEN_NO_SELECTION, 1, 0); /* the first pass strikes article 1 */
+    GIVES(kitchen_choose(SLICE(APART), SLICE(GROUPS), SLICE(NUMBERS(1, 1, 2)), 0, out), KITCHEN_NO_SELECTION, 2, 0);
+    GIVES(kitchen_choose(SLICE(APART), SLICE(GROUPS), SLICE(NUMBERS(1, 2, 1)), 0, out), KITCHEN_NO_SELECTION, 1, 0);
+    GIVES(kitchen_choose(SLICE(APART), SLICE(GROUPS), NULL, 0, 0, out), KITCHEN_NO_SELECTION, 0, 0);
     GIVES(kitchen_choose(SLICE(BYTES(67, 0, 0, EIGHT(0))), NULL, 0, NULL, 0, 0, out), 0, 0, 0);
     return seen;
 }

@@ -127,7 +127,7 @@ def every_call(folder):
         ("reasons that changed places", "", changed(changed(HEADER, "NO_SELECTION = 14", "NO_SELECTION = 15"), "NO_PLAN = 15", "NO_PLAN = 14"), program, 1),
         ("a longer name", "", changed(HEADER, "KITCHEN_NAME_BYTES = 32", "KITCHEN_NAME_BYTES = 33"), program, 1),
         ("a layer of fewer words", "", changed(HEADER, "KITCHEN_ROUND_WORDS = 64", "KITCHEN_ROUND_WORDS = 63"), program, 1),
-        ("another answer", "expected 0, 7 0", HEADER, changed(program, "7, 7, out), 0, 6, 0)", "7, 7, out), 0, 7, 0)"), 1),
+        ("another answer", "expected 0, 7 3", HEADER, changed(program, "7, 7, out), 0, 6, 3)", "7, 7, out), 0, 7, 3)"), 1),
         ("another buffer", "buffers", HEADER, changed(program, "2, 4, 0, 1, 6)", "2, 4, 0, 1, 7)"), 1),
         ("a buffer that is not kept", "buffers", HEADER, changed(program, "2, 4, 0, 2, 1)", "2, 4, 0, 2, 1, 0)"), 1),
     ]

@@ -14,6 +14,7 @@ import shutil
 import subprocess
 import sys
 import textwrap
+import threading
 from collections import Counter
 from concurrent.futures import ThreadPoolExecutor
 
@@ -202,11 +203,19 @@ def kitchen_prints():
     return sum(counted(run([sys.executable, "-B", "reference/kitchen.py", "target/bin/kitchen"]), least.KITCHEN_PRINTS).values())
 
 
+BUILDING = threading.Lock()
+
+
 @functools.cache
-def built_library():
-    """The archive of the C interface and the shared library, as tools/library builds them."""
+def built():
     run(["tools/library"])
     return "target/lib/libkitchen.a", "target/lib/libkitchen.so"
+
+
+def built_library():
+    """The archive of the C interface and the shared library, as tools/library builds them, once."""
+    with BUILDING:
+        return built()
 
 
 def fed(command, file, status=0):
@@ -480,30 +489,19 @@ def dist():
     return len(wanted) + 3 + example(["target/example_unpacked"])
 
 
-def processor_seconds():
-    """What the commands that were run have used: it does not hang on what else the machine does."""
-    used = resource.getrusage(resource.RUSAGE_CHILDREN)
-    return used.ru_utime + used.ru_stime
-
-
 def beside():
     """The second program beside ours through the C interface, in three minutes of processor time: every sort of comparison, as often as tests/least.py says."""
-    shared = built_library()[1]
-    before = processor_seconds()
-    printed = run([sys.executable, "-B", "reference/beside.py", shared])
-    seconds = processor_seconds() - before
-    counts = counted(printed, least.BESIDE)
-    demand(seconds < 180, f"the comparisons took {seconds:.0f} seconds")
-    return counts["comparisons"]
+    limited = ["sh", "-c", 'ulimit -S -t 180 && exec "$@"', "sh"]  # a command that takes longer is ended by SIGXCPU
+    return counted(run([*limited, sys.executable, "-B", "reference/beside.py", built_library()[1]]), least.BESIDE)["comparisons"]
 
 
 def faults():
     """Each mistake that the second program makes on purpose is found."""
-    for fault in range(1, 8):
+    for fault in range(1, 10):
         printed = run([sys.executable, "-B", "reference/beside.py", built_library()[1], "--fault", str(fault)], status=1)
         demand(re.search(r"^the second program .*; after \d+ comparisons: ", printed), f"fault {fault}: {printed}")
         print(f"fault {fault}: {printed[:printed.index(': ')]}", flush=True)
-    return 7
+    return 9
 
 
 def checks_of(script, parts=None):
@@ -579,8 +577,10 @@ CHECKS = [
     *(second_program, kitchen_prints, small_stack, header, every_call, hosts, beside, faults, tool, first_command),
     *(showroom, showroom_faults, page, runner, foolings),
 ]
+# Scripts that write nothing, in target/ neither: two of them are run at a time, after the others, the longest first.
+TOGETHER = (beside, showroom, tool, page, faults, foolings, kitchen_prints, runner)
 # Pairs of a check and a further tool that it needs. They are run if the tool is there, and counted apart.
 EXTRA = [(as_cpp, "c++"), (rust, "rustc"), (installed, "make"), (dist, "make")]
 
 if __name__ == "__main__":
-    sys.exit(main(CHECKS, EXTRA, each=prove_and_run, least=least.CHECKS))
+    sys.exit(main(CHECKS, EXTRA, each=prove_and_run, least=least.CHECKS, together=TOGETHER))

@@ -21,6 +21,7 @@ sys.path[:0] = [str(ROOT / "tools"), str(ROOT / "host")]
 import kitchen  # noqa: E402
 from showroom.advising import Horizon, advice, advised  # noqa: E402
 from showroom.asking import asked  # noqa: E402
+from showroom.guide import CHOICE_EXAMPLE  # noqa: E402
 from showroom.page import STYLE, element, page  # noqa: E402
 from showroom.rules import both_ways  # noqa: E402
 from showroom.telling import told  # noqa: E402
@@ -246,7 +247,7 @@ def form(label, source):
 
 def choice_page(label, text, answer, found, root):
     job, shown = text.job, tables(root)
-    chosen = set() if answer is kitchen.NoSelection else answer.articles
+    chosen = answer.articles if isinstance(answer, kitchen.Selection) else set()
     articles = [called(job, number) for number in range(len(job.records))]
     order = sorted(job.sets[0])
     wishes = order + sorted(set(range(job.members)) - job.sets[0])
@@ -260,7 +261,7 @@ def choice_page(label, text, answer, found, root):
         carried = {(u, c) for u, record in enumerate(job.records) for c, wish in enumerate(wishes) if wish in record.sets[0]}
         equal(marks, carried, f"{label}: what articles carry")
         standing = []
-        if answer is not kitchen.NoSelection:
+        if isinstance(answer, kitchen.Selection):
             sets = (("in every", found.every), ("in some", found.some), ("in none", found.none))
             word = {number: word for word, numbers in sets for number in numbers}
             standing = [word[number] for number in range(len(articles))]
@@ -302,7 +303,11 @@ def whole_page(label, title, text, answer, found, lines, source):
     if not len(root):
         return
     equal((root.findtext("head/title"), root.findtext("body/main/h1")), (title, title), f"{label}: the title")
-    equal(next(root.iter("p")).text, told(text, answer)[0], f"{label}: the answer comes first")
+    first = next(root.iter("div"))
+    sentences = [line for line in told(text, answer) if not line.startswith(" ")]
+    equal([node.text for node in first], sentences, f"{label}: the answer comes first")
+    none = isinstance(answer, kitchen.NoSelection) or answer is kitchen.NoPlan
+    equal(first.get("class"), "answer none" if none else "answer", f"{label}: how the answer is shown")
     lines = {evened(line) for line in lines}
     equal(lines - lines_of(root), set(), f"{label}: lines of the answer or the advice that are missing")
     kind = choice_page if text.job.kind is kitchen.CHOICE else fitting_page
@@ -318,7 +323,7 @@ def pages(folder):
     made = MADE | {"large": large(0.1), "large, none": large(0.9), "long fitting": long_fitting()}
     for name, text in made.items():
         (folder / f"{name}.txt").write_text(text)
-    statuses = set()
+    statuses, places = set(), set()
     for path in [*SAMPLES, *(folder / f"{name}.txt" for name in made)]:
         content, target = path.read_bytes(), folder / "page.html"
         status, _, warnings = run("ask", path)
@@ -331,7 +336,26 @@ def pages(folder):
         lines = run("advise", path)[1].decode().splitlines()
         whole_page(path.name, path.stem, text, answer, advice(text.job, answer), lines, source.decode())
         statuses.add((text.job.kind.word, status))
+        places.add(getattr(answer, "place", None))
     equal(statuses, {("choice", 0), ("choice", 3), ("fitting", 0), ("fitting", 3)}, "each kind with each answer")
+    equal(places, {None, 0, 1}, "orders that fall short, and orders without a kitchen that do not")
+
+
+def falling_short(folder):
+    """The page says whether counting the wishes rules the kitchen out, and nothing else is said of it."""
+    path = folder / "larder.txt"
+    path.write_text(CHOICE_EXAMPLE)
+    for sample, start in (
+        (path, "Counting the wishes already rules such a kitchen out, without a search: "),
+        (ROOT / "jobs" / "impossible.txt", "Counting the wishes alone does not rule such a kitchen out: "),
+    ):
+        status, source, _ = run("page", sample)
+        said = [node.text for node in form(sample.name, source.decode()).iter("p")]
+        check(status == 3 and said[0].startswith("No such kitchen exists: ") and said[1].startswith(start), f"{sample.name}: {said}")
+        equal(source.count(b"Counting"), 1, f"{sample.name}: it is said once")
+    for order in ("corner larder", "no handles"):
+        status, source, _ = run("page", path, "--order", order)
+        equal((status, source.count(b"Counting")), (0, 0), f"with {order} there is a kitchen")
 
 
 def names_of_any_bytes():
@@ -415,6 +439,7 @@ def main():
     with tempfile.TemporaryDirectory() as name:
         folder = pathlib.Path(name)
         pages(folder)
+        falling_short(folder)
         names_of_any_bytes()
         horizons()
         usage(folder)

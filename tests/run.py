@@ -14,6 +14,7 @@ import re
 import shutil
 import subprocess
 import time
+from concurrent.futures import ThreadPoolExecutor
 
 ROOT = pathlib.Path(".")
 NEEDED = ("rt", "cc")
@@ -185,9 +186,9 @@ def further(results):
     return "with further tools: " + ", ".join(f"{len(names)} {what}" + (f" ({', '.join(names)})" if names else "") for what, names in counts)
 
 
-def main(checks, extra, each, least):
-    """Runs what the arguments ask for. Of the check `each` every thing that it saw counts, of the others the check.
-    A check that `least` names and that is not there is a failure."""
+def main(checks, extra, each, least, together=()):
+    """Runs what the arguments ask for: in turn, and then the checks of `together` two at a time. Of the check `each` every
+    thing that it saw counts, of the others the check. A check that `least` names and that is not there is a failure."""
     before = {}
 
     def leaves_the_tree_clean():
@@ -210,7 +211,9 @@ def main(checks, extra, each, least):
 
     absent = sorted(set(least) - {check.__name__ for check in everything})
     before.update(snapshot())
-    results = [tried(check, least) for check in checks if wanted(check)]
+    results = [tried(check, least) for check in checks if wanted(check) and check not in together]
+    with ThreadPoolExecutor(2) as pool:
+        results += pool.map(lambda check: tried(check, least), filter(wanted, together))
     with_tools = [tried_with(tool, check, bool(given.check), least) for check, tool in extra if wanted(check)]
     last = [tried(leaves_the_tree_clean, least)] if wanted(leaves_the_tree_clean) else []
     last += [Result(name, least[name], fault="there is no such check, and tests/least.py names it") for name in absent]

@@ -33,7 +33,10 @@ rt: ok, 2 crates proved, 1 must-fail edits refused
 """
 
 # In place of the checks of the gate.
-PLANTED = '''import sys
+PLANTED = '''import os
+import sys
+import threading
+
 from run import Failed, main
 
 
@@ -73,6 +76,23 @@ def writes():
     return 1
 
 
+def comes_late():
+    """It needs what another check leaves behind."""
+    return int(os.path.exists("stray"))
+
+
+def meets():
+    """It waits until another check waits, too."""
+    BARRIER.wait(10)
+    return 1
+
+
+def meets_too():
+    """It waits until another check waits, too."""
+    return meets()
+
+
+BARRIER = threading.Barrier(2)
 CHECKS = [passes, fails, breaks, ends, sees_nothing, sees_few, writes]
 EXTRA = [(FURTHER)]
 LEAST = {check.__name__: 3 if check == sees_few else 1 for check in [*CHECKS, *(check for check, _ in EXTRA)]}
@@ -212,6 +232,16 @@ def planted_checks(copy):
     equal(copy.result(), (1, "4 passed, 6 failed"), "all of them")
     (copy.root / "stray").unlink()
     equal(kept.exists(), True, "target/ is kept")
+
+    gate_file.write_text(PLANTED.replace("(FURTHER)", "").replace("least=LEAST)", "least=LEAST, together=[passes, fails, writes])"))
+    equal(copy.result(), (1, "4 passed, 6 failed"), "some of them two at a time")
+    (copy.root / "stray").unlink()
+    equal(copy.result("passes", "leaves_the_tree_clean"), (0, "4 passed, 0 failed"), "one of those that run two at a time")
+    planted = PLANTED.replace("(FURTHER)", "").replace("[passes, fails,", "[comes_late, meets, meets_too, passes, fails,")
+    gate_file.write_text(planted.replace("least=LEAST)", "least=LEAST, together=[meets, meets_too, comes_late])"))
+    equal(copy.result("meets", "meets_too"), (0, "2 passed, 0 failed"), "two at a time")
+    equal(copy.result("comes_late", "writes"), (0, "2 passed, 0 failed"), "after the others")
+    (copy.root / "stray").unlink()
 
     gate_file.write_text(PLANTED.replace("(FURTHER)", '(writes, "sh"), (ends, "no-such-tool")').replace("fails, breaks, ends, sees_nothing, sees_few, writes", ""))
     (copy.root / "stray").write_text("")

@@ -39,13 +39,14 @@ from showroom import advising, asking, changing, commands, telling  # noqa: E402
 from showroom import rules as trying  # noqa: E402
 from showroom.changing import Change  # noqa: E402
 from showroom.files import job_text  # noqa: E402
+from showroom.guide import CHOICE_EXAMPLE  # noqa: E402
 from showroom.texts import stated  # noqa: E402
 
 TOOL = ROOT / "tools" / "job"
 KITCHEN = ROOT / "target" / "bin" / "kitchen"
 LIBRARY = ROOT / "target" / "lib" / "libkitchen.so"
 SAMPLES = sorted((ROOT / "jobs").glob("*.txt"))
-ANSWERS = ("No such", "A kitchen of", "A plan of", "needs no article", "takes no round")
+ANSWERS = ("No such", "A kitchen of", "A plan of", "needs no article", "takes no round", "Counting the wishes", "How far")
 MOST_SHOWN = 10  # failures of a section
 ROOM = 4096  # bytes, more than any file has
 MOST_SELECTIONS = 2**6 + 1  # more than any job has whose selections are all looked at
@@ -148,9 +149,20 @@ def second_output(file):
 def second_choice(job):
     """The selection and the set aside, or None."""
     found = second_output(kitchen.written(job))
-    if found == "refused 14 at 0":
+    if found.startswith("refused 14 at "):
         return None
     return [{int(word) for word in line.split()[1:]} for line in found.splitlines()]
+
+
+def second_place(job):
+    """The place of 14, of a job without a selection."""
+    return int(second_output(kitchen.written(job)).removeprefix("refused 14 at "))
+
+
+def second_bound(job):
+    """What the groups contribute to the order, added up."""
+    state = reader.read(kitchen.written(job))
+    return tool.most_carried(state, rules.own_groups(state), range(len(state.articles)), state.order)
 
 
 @functools.cache
@@ -198,7 +210,11 @@ def told_as_second(text, output, status, label):
 def choice_as_second(text, output, status, label):
     answer, order = second_choice(text.job), len(text.job.sets[0])
     if answer is None:
-        return check(status == 3 and output.startswith("No such kitchen exists: "), f"{label}: no kitchen\n{output}")
+        start, end = tool.COUNTED[second_place(text.job)]
+        first, counted, *rest = output.splitlines()
+        check(status == 3 and first.startswith("No such kitchen exists: "), f"{label}: no kitchen\n{output}")
+        check(counted.startswith(start) and counted.endswith(end), f"{label}: whether the order falls short\n{output}")
+        return check("Counting" not in "".join([first, *rest]), f"{label}: it is told once\n{output}")
     chosen, aside = answer
     equal((status, rows(output)), (0, article_rows(text, chosen)), label)
     check(("Set aside at once: " in output) == bool(aside), f"{label}: the set aside\n{output}")
@@ -373,34 +389,45 @@ def sample(name):
     return ROOT / "jobs" / f"{name}.txt"
 
 
+def larder_in(folder):
+    """The choice of the help, as a text: it has no kitchen, and the order falls short."""
+    path = folder / "larder.txt"
+    path.write_text(CHOICE_EXAMPLE)
+    return path
+
+
 @section("statuses", "asked", "misused", "unwritable", "lines of json", "orders", "from standard input", "advised")
 def statuses(tally, folder):
     faulty, missing, short = folder / "faulty.txt", folder / "missing.txt", folder / "short.txt"
+    larder = larder_in(folder)
     faulty.write_bytes(FAULTY)
     short.write_bytes(SHORT)
-    ask_statuses(tally, faulty, missing, short)
+    ask_statuses(tally, faulty, missing, short, larder)
     misuse(tally)
     unwritable(tally)
-    from_standard_input(tally)
-    advise_statuses(tally, faulty, missing, short)
-    json_lines(tally, faulty, missing, short)
+    from_standard_input(tally, larder)
+    advise_statuses(tally, faulty, missing, short, larder)
+    json_lines(tally, faulty, missing, short, larder)
     orders(tally, folder)
 
 
-def ask_statuses(tally, faulty, missing, short):
+def ask_statuses(tally, faulty, missing, short, larder):
     with_one, plan, none, folder = sample("kitchen"), sample("fitting"), sample("impossible"), ROOT / "jobs"
     cases = [
         ([with_one], 0), ([plan], 0), ([none], 3), ([short], 3), ([faulty], 1), ([missing], 1), ([folder], 1),
         ([with_one, plan], 0), ([with_one, none], 3), ([none, with_one], 3), ([with_one, short, plan], 3),
         ([with_one, faulty], 1), ([none, missing, with_one], 1), ([faulty, none, plan], 1), ([missing, faulty], 1),
+        ([larder], 3), ([larder, none], 3), ([none, larder, with_one], 3), ([larder, faulty], 1), ([larder, short], 3),
     ]  # fmt: skip
-    told = {with_one: "A kitchen of 7 articles", plan: "A plan of 8 rounds", none: "No such kitchen", short: "No such plan"}
+    told = {with_one: "A kitchen of 7 articles", plan: "A plan of 8 rounds", short: "No such plan"}
+    told |= {larder: tool.COUNTED[0][0], none: tool.COUNTED[1][0]}
     for number, (paths, expected) in enumerate(cases):
         status, output, errors = ran([TOOL, "ask", *paths]) if number % 2 else called("ask", *paths)
         label = f"ask {' '.join(path.name for path in paths)}"
         check(status == expected, f"{label}: status {status}\n{output}{errors}")
         for path, answer in told.items():
             equal(output.count(answer), paths.count(path), f"{label}: the answer of {path.name}\n{output}")
+        equal(output.count("No such kitchen"), paths.count(none) + paths.count(larder), f"{label}: no kitchen\n{output}")
         for path in {faulty, missing, folder} & set(paths):
             check(str(path) in errors, f"{label}: what is wrong with {path.name}\n{errors}")
         tally["asked"] += 1
@@ -413,7 +440,8 @@ def misuse(tally):
         ["ask", "--order", "no hood", one, plan], ["ask", one, plan, "--next", "2"], ["ask", "--next", "0", one],
         ["ask", "--next", "x", one], ["ask", "--next", "-1", one], ["ask", "-", "-"], ["ask", one, "--order"],
         ["ask", "--nex", "1", one], ["advise"], ["advise", one, plan], ["advise", "--order", "no hood", plan],
-        ["advise", "--json", one],
+        ["advise", "--json", one], ["advise", "--bound", plan], ["ask", "--bound", one], ["page", "--bound", one],
+        ["advise", one, "--bound", "2"], ["advise", "--bound=2", one],
     ):  # fmt: skip
         status, output, errors = called(*arguments)
         equal((status, output), (2, ""), f"{arguments}: misuse, {errors}")
@@ -432,8 +460,8 @@ def unwritable(tally):
             tally["unwritable"] += 1
 
 
-def from_standard_input(tally):
-    for path in SAMPLES:
+def from_standard_input(tally, larder):
+    for path in [*SAMPLES, larder]:
         direct, piped = called("ask", path), called("ask", "-", stdin=path.read_bytes())
         equal(piped[0], direct[0], f"the status of {path.name} from standard input")
         equal(piped[1].replace("advise -", f"advise {path}"), direct[1], f"{path.name} from standard input")
@@ -444,10 +472,11 @@ def from_standard_input(tally):
     check(status == 1 and not output and "standard input" in errors, f"nothing on standard input: {errors}")
 
 
-def advise_statuses(tally, faulty, missing, short):
+def advise_statuses(tally, faulty, missing, short, larder):
     for path, status, start in (
         (sample("kitchen"), 0, "A kitchen of 7 articles"), (sample("fitting"), 0, "A plan of 8 rounds"),
         (sample("impossible"), 3, "No such kitchen"), (short, 3, "No such plan"), (faulty, 1, ""), (missing, 1, ""),
+        (larder, 3, "No such kitchen"),
     ):  # fmt: skip
         found, output, errors = called("advise", path)
         check(found == status and output.startswith(start), f"advise {path.name}: {found}\n{output}{errors}")
@@ -456,10 +485,16 @@ def advise_statuses(tally, faulty, missing, short):
         tally["advised"] += 1
     _, output, _ = ran([TOOL, "advise", short])
     check("A horizon of 2 rounds would do; no plan has fewer." in output, output)
+    for path, place in ((larder, 0), (sample("impossible"), 1)):
+        output = ran([TOOL, "advise", path])[1]
+        start, end = tool.COUNTED[place]
+        line = output.splitlines()[1]
+        check(line.startswith(start) and line.endswith(end) and output.count("Counting") == 1, f"{path.name}: {output}")
+        check("These wishes cannot be had together: " in output, f"{path.name}: {output}")
 
 
-def json_lines(tally, faulty, missing, short):
-    paths = [*SAMPLES, short, faulty, missing]
+def json_lines(tally, faulty, missing, short, larder):
+    paths = [*SAMPLES, short, larder, faulty, missing]
     status, output, errors = ran([TOOL, "ask", "--json", *paths])
     check(status == 1 and str(missing) in errors, f"json of all: {status}, {errors}")
     lines = output.splitlines()
@@ -469,7 +504,7 @@ def json_lines(tally, faulty, missing, short):
         equal(found.pop("text"), str(path), "the text of a line of JSON")
         json_as_second(path, found)
         tally["lines of json"] += 1
-    for path, status in zip(paths, (0, 0, 0, 3, 0, 3, 1, 1)):
+    for path, status in zip(paths, (0, 0, 0, 3, 0, 3, 3, 1, 1)):
         equal(called("ask", "--json", path)[:2], (status, lines[paths.index(path)] + "\n"), f"json of {path.name}")
     status, output, _ = called("ask", "--json", "--next", "1", sample("A"))
     further = json.loads(output)["further"]
@@ -492,7 +527,9 @@ def json_as_second(path, found):
         return check(good and found == expected, f"json of {path.name}: {found}")
     answer = second_choice(text.job)
     if answer is None:
-        return equal(found, {"kind": "choice", "answer": "no such kitchen"}, path.name)
+        short = {"larder": True, "impossible": False}[path.stem]
+        equal(short, second_place(text.job) == 0, f"whether the order of {path.name} falls short")
+        return equal(found, {"kind": "choice", "answer": "no such kitchen", "falls_short": short}, path.name)
     articles = data(answer[0])
     for article in articles:
         wishes = text.job.records[article["number"]].sets[0] & text.job.sets[0]
@@ -555,7 +592,7 @@ def lies_of_any(right):
     yield from (b"", b"\n", b"\0", b"\xff\xfe\xfd", b"junk\n", b"x" * 100_000, b"chosen\n", b"rounds\n", b"none\n")
     yield from (right.replace(b"\n", b"\r\n"), right + right, right + b"\n", b"\n" + right, b" " + right, right.upper())
     yield from (right.replace(b"\n", b" \n", 1), right.replace(b"\n", b"\0\n"), right.replace(b"\n", b"", 1))
-    yield b"refused 14 at 1\n"
+    yield from (f"refused 14 at {place}\n".encode() for place in (0, 1, 2, "00", "01", 64))
     yield b"refused 15 at 00\n"
 
 
@@ -573,6 +610,7 @@ def choice_lies(right):
         yield line(b"chosen", chosen) + line(b"aside", other)
     yield line(b"aside", aside) + line(b"chosen", chosen)
     yield b"refused 14 at 0\n"
+    yield b"refused 14 at 1\n"
     yield b"refused 15 at 0\n"
 
 
@@ -591,6 +629,7 @@ def plan_lies(right):
     yield re.sub(rb"rounds \d+", b"rounds 1", right)
     yield b"refused 15 at 0\n"
     yield b"refused 14 at 0\n"
+    yield b"refused 14 at 1\n"
 
 
 def no_answer(tally, path, stand_in, label, commands=("ask", "json", "advise")):
@@ -616,13 +655,17 @@ def copied_tree(folder):
     return tree
 
 
-@section("stand_in", "lies asked", "lies advised", "cuts", "lies in a copied tree", "ends", "later lies", "honest")
+@section(
+    "stand_in", "lies asked", "lies advised", "cuts", "lies in a copied tree", "ends", "later lies", "honest",
+    "other places than 0", "other places than 1"
+)  # fmt: skip
 def stand_in(tally, folder):
     tree = copied_tree(folder)
     path = tree / "target" / "bin" / "kitchen"
-    files = {text: kitchen.written(stated(text.read_bytes()).job) for text in SAMPLES}
+    texts = [larder_in(tree / "jobs"), *SAMPLES]
+    files = {text: kitchen.written(stated(text.read_bytes()).job) for text in texts}
     script(path, f'exec "{KITCHEN}"')
-    honest(tally, tree, path)
+    honest(tally, tree, path, texts)
     for text, file in files.items():
         right = right_output(file)
         lies(tally, tree, path, text, right, [right_output(other) for other in files.values() if other != file])
@@ -632,19 +675,23 @@ def stand_in(tally, folder):
     unusable_programs(tally, tree, path)
 
 
-def honest(tally, tree, path):
+def honest(tally, tree, path, texts):
     """What hands the bytes on to kitchen itself gives the right answers, so that all else fails for its own reason."""
-    for text in SAMPLES:
+    for text in texts:
         for command in ("ask", "advise"):
             equal(called(command, text, program=path), called(command, text), f"honest: {command} {text.name}")
-        equal(ran(["./show", f"jobs/{text.name}"], cwd=tree), ran(["./show", f"jobs/{text.name}"]), f"honest: {text.name}")
+        equal(ran(["./show", text], cwd=tree), ran(["./show", text]), f"honest: {text.name}")
         tally["honest"] += 1
 
 
 def lies(tally, tree, path, text, right, others):
     own = plan_lies(right) if right.startswith(b"rounds") else choice_lies(right) if right.startswith(b"chosen") else []
+    own = [b"refused 14 at %d\n" % place for place in (0, 1)] if right.startswith(b"refused 14") else own
     any_time = [] if text.stem in ("A", "F") else lies_of_any(right)
     found = [output for output in dict.fromkeys([*own, *any_time, *others]) if output != right]
+    for place in (0, 1):
+        if right == b"refused 14 at %d\n" % place:
+            tally[f"other places than {place}"] += b"refused 14 at %d\n" % (1 - place) in found
     for number, output in enumerate(found):
         says(path, output)
         label = f"{output[:120]!r}"
@@ -682,11 +729,11 @@ def later_lies(tally, folder, path, files):
     short = folder / "short.txt"
     short.write_bytes(SHORT)
     files = files | {short: kitchen.written(stated(SHORT).job)}
-    asks_more = [text for text in files if text.stem in ("A", "kitchen", "impossible", "short")]
+    asks_more = [text for text in files if text.stem in ("A", "kitchen", "impossible", "larder", "short")]
     for text in asks_more:
         path.with_name("file").write_bytes(files[text])
         right = right_output(files[text])
-        refused = [b"refused %d at 0\n" % number for number in (1, 14, 15)]
+        refused = [b"refused %d at 0\n" % number for number in (1, 14, 15)] + [b"refused 14 at 1\n"]
         for output in dict.fromkeys([b"", right[:-1], *refused, b"chosen\naside\n", right]):
             path.with_name("output").write_bytes(output)
             keep, file, lie = (f'"{path.with_name(name)}"' for name in ("asked", "file", "output"))
@@ -716,7 +763,7 @@ def unusable_programs(tally, tree, path):
 
 @section(
     "drawn", "kitchens", "no kitchens", "no rounds", "plans", "long plans", "no plans", "set aside", "through the command line",
-    "other selections not taken", "other plans taken", "other plans not taken"
+    "other selections not taken", "other plans taken", "other plans not taken", "falls short", "does not fall short"
 )  # fmt: skip
 def drawn(tally, folder):
     draw = random.Random(20261116)
@@ -741,6 +788,8 @@ def drawn(tally, folder):
         tally[outcome(output)] += 1
         tally["long plans"] += outcome(output) == "plans" and len(rows(output)) > 3
         tally["set aside"] += "Set aside at once" in output
+        tally["falls short"] += tool.COUNTED[0][0] in output
+        tally["does not fall short"] += tool.COUNTED[1][0] in output
 
 
 def other_answers(tally, job, draw, label):
@@ -758,7 +807,9 @@ def other_answers(tally, job, draw, label):
 
 def other_choices(tally, job, draw, label):
     answer, n = second_choice(job), len(job.records)
-    equal(accepted(asking.choice_answer, job, "refused 14 at 0\n"), answer is None, f"{label}: no selection")
+    for place in range(3):
+        right = answer is None and place == second_place(job)
+        equal(accepted(asking.choice_answer, job, f"refused 14 at {place}\n"), right, f"{label}: no selection, at {place}")
     kitchens = [rules.number(chosen) for chosen in covering(clash_free(job), job.sets[0])]
     numbers = draw.sample(kitchens, min(8, len(kitchens))) + [draw.randrange(2**n) for _ in range(4)]
     _, aside = answer or (set(), draws.some(draw, n, 0.3))
@@ -822,7 +873,8 @@ def spoken(names):
 
 @section(
     "advise", "every", "none", "some", "parts of 1", "parts of 2", "parts of 3", "parts of more", "not enough", "uncarried",
-    "horizons that would do", "horizons that none would", "ungiven", "goals that are given in vain", "command lines"
+    "horizons that would do", "horizons that none would", "ungiven", "goals that are given in vain", "command lines",
+    "falls short", "does not fall short"
 )  # fmt: skip
 def advise(tally, folder):
     draw = random.Random(7)
@@ -834,10 +886,13 @@ def advise(tally, folder):
         answer = asking.asked(job)
         found = advising.advice(job, answer)
         kitchens = covering(sets, job.sets[0])
-        check((answer is kitchen.NoSelection) == (not kitchens), f"{label}: whether there is a kitchen")
+        check(isinstance(answer, kitchen.NoSelection) == (not kitchens), f"{label}: whether there is a kitchen")
         if kitchens:
             expected = every_none_some(tally, job, kitchens, found, label)
         else:
+            short = second_bound(job) < len(job.sets[0])
+            equal(answer, kitchen.NoSelection(0 if short else 1), f"{label}: whether the order falls short")
+            tally["falls short" if short else "does not fall short"] += 1
             expected = why_not(tally, text, sets, found, label)
         as_lines(tally, folder, text, answer, expected, number, label)
     for number in range(220):
@@ -943,7 +998,7 @@ def as_lines(tally, folder, text, answer, expected, number, label):
         tally["command lines"] += 1
     equal(lines[: len(answered)], answered, f"{label}: the answer comes first")
     split = [rows(line)[0] if line.startswith("  ") else line for line in lines[len(answered) :]]
-    none = answer is kitchen.NoSelection or answer is kitchen.NoPlan
+    none = isinstance(answer, kitchen.NoSelection) or answer is kitchen.NoPlan
     equal((status, split), (3 if none else 0, expected), f"{label}: in words")
 
 
@@ -981,7 +1036,7 @@ def next_kitchens(tally, folder):
         job = drawn_choice(draw, 7, 4)
         text, first, wanted = text_of(job), asking.asked(job), draw.choice([1, 1, 2, 3, 5, 8])
         label = f"{wanted} further, {kitchen.written(job).hex()}"
-        if first is kitchen.NoSelection:
+        if isinstance(first, kitchen.NoSelection):
             continue
         expected = second_further(job, wanted)
         equal(asking.further(job, first, wanted), expected, label)
@@ -1022,13 +1077,10 @@ def none_at_all(tally):
     equal((status, [len(line.get("further", [])) for line in lines]), (3, [1, 0]), "further kitchens as JSON")
 
 
-def unusable_libraries(tally, folder):
-    """Without a library of this version nothing is told of a text; without --next all is."""
-    tree = copied_tree(folder)
-    shutil.copy(KITCHEN, tree / "target" / "bin")
+def put_libraries(tree):
+    """Into a tree come libraries that cannot be used, in turn, each with what is said of it; and at last one that can."""
     path, module = tree / "target" / "lib" / "libkitchen.so", tree / "host" / "kitchen.py"
     path.parent.mkdir()
-    call = ["tools/job", "ask", "--next", "1"]
     for label, content, version, phrase in (
         ("missing", None, kitchen.VERSION, "libkitchen.so is missing; build it with tools/library"),
         ("empty", b"", kitchen.VERSION, f"{path} is no library of ours"),
@@ -1041,18 +1093,115 @@ def unusable_libraries(tally, folder):
             path.write_bytes(content)
         text = (ROOT / "host" / "kitchen.py").read_text()
         module.write_text(text.replace(f"\nVERSION = {kitchen.VERSION}\n", f"\nVERSION = {version}\n"))
+        yield f"a library, {label}", phrase
+    path.unlink()
+
+
+def unusable_libraries(tally, folder):
+    """Without a library of this version nothing is told of a text; without --next all is."""
+    tree = copied_tree(folder)
+    shutil.copy(KITCHEN, tree / "target" / "bin")
+    call = ["tools/job", "ask", "--next", "1"]
+    for label, phrase in put_libraries(tree):
         status, output, errors = ran([*call, "jobs/kitchen.txt"], cwd=tree)
         if not phrase:
             check(status == 0 and "Further kitchen 1, of 7 articles:" in output, f"{label}: {status}\n{output}{errors}")
             continue
-        check((status, output) == (1, "") and phrase in errors, f"a library, {label}: {status}\n{output}{errors}")
+        check((status, output) == (1, "") and phrase in errors, f"{label}: {status}\n{output}{errors}")
         status, output, _ = ran([*call, "--json", "jobs/kitchen.txt", "jobs/impossible.txt"], cwd=tree)
         equal((status, [json.loads(line)["answer"] for line in output.splitlines()]), (1, ["error", "no such kitchen"]), label)
         tally["libraries that are not used"] += 1
-    module.write_text((ROOT / "host" / "kitchen.py").read_text())
-    path.unlink()
     status, output, _ = ran(["tools/job", "ask", "jobs/kitchen.txt"], cwd=tree)
     check(status == 0 and output.startswith("A kitchen of 7 articles"), f"without --next no library is needed: {output}")
+
+
+# ---- how far the wishes can go
+
+
+@section(
+    "bound", "bounds", "reached", "not reached", "falls short", "does not fall short", "empty orders", "command lines", "lies",
+    "honest", "libraries that are not used"
+)  # fmt: skip
+def bounds(tally, folder):
+    draw, path = random.Random(13), folder / "bound.txt"
+    jobs = [drawn_choice(draw, 7, 6) for _ in range(150)] + [tight_choice(draw, 7, 6) for _ in range(80)]
+    jobs += [linked_choice(draw, draw.choice([2, 3, 4])) for _ in range(20)]
+    for number, job in enumerate(jobs):
+        label = f"bound {number}, {kitchen.written(job).hex()}"
+        expected = how_far(tally, job, label)
+        equal(asking.bound(job), expected, label)
+        if number % 5 == 0:
+            path.write_text(job_text(job))
+            call = ["advise", "--bound", path]
+            found = ran([TOOL, *call]) if number % 25 == 0 else called(*call)
+            equal(found, with_bound(text_of(job), called("advise", path), expected), f"{label}: in words")
+            tally["command lines"] += 1
+    for text in [*(path for path in SAMPLES if stated(path.read_bytes()).job.kind is kitchen.CHOICE), larder_in(folder)]:
+        lies_about_bounds(tally, text)
+    bound_libraries(tally, folder)
+
+
+def how_far(tally, job, label):
+    """The sum of all contributions to the order, which no set of articles without a clash exceeds; None without a wish."""
+    order, expected = job.sets[0], second_bound(job)
+    if not order:
+        tally["empty orders"] += 1
+        return None
+    most = max(len(wishes & order) for _, wishes in clash_free(job))
+    check(most <= expected, f"{label}: {most} wishes of the order can be had together")
+    tally["bounds"] += 1
+    tally["reached" if most == expected else "not reached"] += 1
+    tally["falls short" if expected < len(order) else "does not fall short"] += 1
+    return expected
+
+
+def with_bound(text, advised, expected):
+    """What advise tells, with a line on the bound before it, if there is one."""
+    status, output, errors = advised
+    lines = output.splitlines()
+    if expected is not None:
+        groups = "the articles form groups in which all exclude each other; if every group gives the one that carries most wishes"
+        wishes = f"{expected} wish{'es' * (expected != 1)}, each counted as often as it is carried"
+        lines.insert(0, f"How far the wishes can go: {groups} of the order, that adds up to {wishes}; the order has {len(text.job.sets[0])}.")
+    return status, "".join(f"{line}\n" for line in lines), errors
+
+
+def lies_about_bounds(tally, path):
+    """A library that answers another number, or refuses, is not believed: status 1, and nothing is told."""
+    text, true = stated(path.read_bytes()), kitchen.Library.bound
+    right, advised = second_bound(text.job), called("advise", path)
+    refusals = [kitchen.Refused(number, 0) for number in (1, 11, 12, 13, 14)]
+    try:
+        for answer in [right - 1, right + 1, len(text.job.records), 2**64 - 1, *refusals, kitchen.Unusable("it is not usable")]:
+            if answer == right:
+                continue
+            kitchen.Library.bound = tool.Bounding(answer).bound
+            status, output, errors = called("advise", "--bound", path)
+            said = errors.startswith("how far the wishes can go cannot be told: ")
+            check((status, output) == (1, "") and said, f"{answer!r} for {path.name}: {status}, {output}{errors}")
+            tally["lies"] += 1
+        kitchen.Library.bound = tool.Bounding(right).bound
+        equal(called("advise", "--bound", path), with_bound(text, advised, right), f"honest, {path.name}")
+    finally:
+        kitchen.Library.bound = true
+    equal(called("advise", "--bound", path), with_bound(text, advised, right), f"the library itself, {path.name}")
+    tally["honest"] += 1
+
+
+def bound_libraries(tally, folder):
+    """Without a library of this version nothing is told if --bound is asked for; without --bound all is."""
+    tree = copied_tree(folder)
+    shutil.copy(KITCHEN, tree / "target" / "bin")
+    advised = ran(["tools/job", "advise", "jobs/impossible.txt"])
+    for label, phrase in put_libraries(tree):
+        status, output, errors = ran(["tools/job", "advise", "--bound", "jobs/impossible.txt"], cwd=tree)
+        if not phrase:
+            check(status == 3 and "that adds up to 3 wishes, each counted as often as it is carried; the order has 3.\n" in output, f"{label}: {status}\n{output}{errors}")
+            continue
+        said = errors.startswith("how far the wishes can go cannot be told: ") and "; without --bound all else is told" in errors
+        check((status, output) == (1, "") and said and phrase in errors, f"{label}: {status}\n{output}{errors}")
+        equal(ran(["tools/job", "advise", "jobs/impossible.txt"], cwd=tree), advised, f"{label}, and --bound is not asked for")
+        tally["libraries that are not used"] += 1
 
 
 # ---- changes
@@ -1267,22 +1416,12 @@ def lies_of_the_library(tally, folder):
 def no_library_to_change(tally, folder):
     """Without a library of this version nothing is written."""
     tree = copied_tree(folder)
-    path, module = tree / "target" / "lib" / "libkitchen.so", tree / "host" / "kitchen.py"
-    path.parent.mkdir()
     (tree / "old.job").write_bytes(file_of("A"))
-    for label, content, version, phrase in (
-        ("missing", None, kitchen.VERSION, "there is no new file: libkitchen.so is missing; build it with tools/library\n"),
-        ("junk", b"junk", kitchen.VERSION, f"there is no new file: {path} is no library of ours"),
-        ("older", LIBRARY.read_bytes(), kitchen.VERSION + 1, f"has the interface {kitchen.VERSION}; this module is for"),
-        ("usable", LIBRARY.read_bytes(), kitchen.VERSION, ""),
-    ):
-        if content is not None:
-            path.write_bytes(content)
-        text = (ROOT / "host" / "kitchen.py").read_text()
-        module.write_text(text.replace(f"\nVERSION = {kitchen.VERSION}\n", f"\nVERSION = {version}\n"))
+    for label, phrase in put_libraries(tree):
         status, output, errors = ran(["tools/job", "change", "old.job", "order", "#0", "-o", "new.job"], cwd=tree)
-        check((status, output) == (1 if phrase else 0, "") and phrase in errors, f"a library, {label}: {status}, {errors}")
-        equal((tree / "new.job").exists(), not phrase, f"a library, {label}: whether something is written")
+        check((status, output) == (1 if phrase else 0, "") and phrase in errors, f"{label}: {status}, {errors}")
+        equal(errors.startswith("there is no new file: "), bool(phrase), f"{label}: {errors}")
+        equal((tree / "new.job").exists(), not phrase, f"{label}: whether something is written")
         tally["libraries not used"] += bool(phrase)
     equal((tree / "new.job").read_bytes(), tool.second_saved(file_of("A"), "order", {0}), "what the usable one gives")
 
@@ -1303,14 +1442,18 @@ class Beside:
         except kitchen.Refused as refusal:
             found = f"refused {refusal.number} at {refusal.place}"
         expected = reader.outcome(theirs)
-        answers = {"refused 14 at 0": kitchen.NoSelection, "refused 15 at 0": kitchen.NoPlan, "refused 16 at 0": None}
-        if isinstance(expected, str) and expected in answers:
+        answers = {"refused 15 at 0": kitchen.NoPlan, "refused 16 at 0": None}
+        if isinstance(expected, str) and expected.startswith("refused 14 at "):
+            expected = kitchen.NoSelection(int(expected.removeprefix("refused 14 at ")))
+            self.tally["answers NoSelection"] += 1
+        elif isinstance(expected, str) and expected in answers:
             expected = answers[expected]
             self.tally[f"answers {expected}"] += 1
         elif isinstance(expected, str):
             self.tally[re.match(r"refused \d+", expected)[0]] += 1
         self.tally[label.split()[0]] += 1
         equal(found, expected, label)
+        return expected
 
     def choose(self, file, floor=0, goals=None, groups=None):
         def second():
@@ -1319,15 +1462,34 @@ class Beside:
             return kitchen.Selection(*rules.choose(file, rules.own_groups(job) if groups is None else groups, lists, floor))
 
         label = f"choose {file.hex()}, {floor}, {goals}, {groups}"
-        self.same(label, lambda: self.ours.choose(file, floor, goals, groups), second)
+        answer = self.same(label, lambda: self.ours.choose(file, floor, goals, groups), second)
+        if isinstance(answer, kitchen.NoSelection):
+            count = len(kitchen.own_goals(file) if goals is None else goals)
+            self.tally[f"goal {answer.place} falls short" if answer.place < count else f"none of {count} falls short"] += 1
+
+    def passed(self, file, live, goal, groups):
+        """A pass of the second program; its sum is also that of the plain definition, which is here."""
+        job = rules.read(file, (reader.CHOICE,))
+        lent = rules.own_groups(job) if groups is None else groups
+        left, total = rules.filter_pass(file, lent, live, goal)
+        equal(total, tool.most_carried(job, lent[: len(job.articles)], live, goal), f"the sum of {file.hex()}, {live}, {goal}, {groups}")
+        return kitchen.Passed(left, total)
 
     def filter_pass(self, file, live, goal, groups=None):
-        def second():
-            job = rules.read(file, (reader.CHOICE,))
-            return rules.filter_pass(file, rules.own_groups(job) if groups is None else groups, live, goal)
-
         label = f"pass {file.hex()}, {live}, {goal}, {groups}"
-        self.same(label, lambda: self.ours.filter_pass(file, live, goal, groups), second)
+        second = lambda: self.passed(file, live, goal, groups)
+        answer = self.same(label, lambda: self.ours.filter_pass(file, live, goal, groups), second)
+        if isinstance(answer, kitchen.Passed):
+            self.tally["passes that fall short" if answer.sum < len(goal) else "passes that do not fall short"] += 1
+
+    def bound(self, file, goal, groups=None):
+        """The sum of a pass with all articles live."""
+
+        def second():
+            count = len(rules.read(file, (reader.CHOICE,)).articles)
+            return self.passed(file, set(range(count)), goal, groups).sum
+
+        self.same(f"bound {file.hex()}, {goal}, {groups}", lambda: self.ours.bound(file, goal, groups), second)
 
     def partition(self, file):
         second = lambda: bytes(rules.own_groups(rules.read(file, (reader.CHOICE,))))
@@ -1390,6 +1552,8 @@ class Beside:
         self.choose(file, goals=[], groups=[])
         self.filter_pass(file, set(), {0})
         self.filter_pass(file, {0}, {0}, [0] * 64)
+        self.bound(file, {0})
+        self.bound(file, set(), [0] * 64)
         self.selections(file)
         self.plan(file)
         self.layers(file, 0)
@@ -1403,9 +1567,10 @@ class Beside:
 
 
 @section(
-    "module", "read", "choose", "pass", "partition", "selections", "plan", "fact", "round", "name", "find", "alike",
+    "module", "read", "choose", "pass", "bound", "partition", "selections", "plan", "fact", "round", "name", "find", "alike",
     "save_order", "save_wishes", "save_clashes", "save_name", "unusable", "built", "answers NoSelection", "answers NoPlan",
-    "answers None",
+    "answers None", "goal 0 falls short", "goal 1 falls short", *(f"none of {count} falls short" for count in range(3)),
+    "passes that fall short", "passes that do not fall short",
     *(f"refused {number}" for number in range(1, 14))
 )  # fmt: skip
 def module(tally, folder):
@@ -1437,6 +1602,10 @@ def choice_calls(beside, file, draw):
         goals = draw.choice([None, [], [part()], [job.order, part()], [part(), {63}]])
         beside.choose(file, draw.choice([0, *numbers]) + draw.randrange(2), goals, groups)
         beside.filter_pass(file, draws.some(draw, n + draw.randrange(2), 0.8), draw.choice([job.order, part(), {63}]), groups)
+        beside.bound(file, draw.choice([job.order, job.order, part(), {63}]), groups)
+    wishes = sorted(job.order)
+    for goals in ([{wish} for wish in wishes], [job.order, job.order], [set(wishes[:1]), job.order], [set(wishes[1:]), job.order]):
+        beside.choose(file, 0, goals)
     for floor in (0, 2**n - 1, 2**64 - 1):
         beside.choose(file, floor)
     beside.names(file, range(n + 1), [article.name for article in job.articles] + [b"", b"no such", b"n" * 33])
@@ -1488,6 +1657,9 @@ def past_the_words(tally, library):
         "a second goal": lambda: library.choose(a, goals=[{0}, {70}]),
         "live articles": lambda: library.filter_pass(a, {64}, {0}),
         "the goal of a pass": lambda: library.filter_pass(a, {0}, {64}),
+        "the goal of a bound": lambda: library.bound(a, {0, 64}),
+        "a group of a bound": lambda: library.bound(a, {0}, [0, 0, 256]),
+        "a file of a bound, as text": lambda: library.bound(a.decode("latin-1"), {0}),
         "a group past a byte": lambda: library.choose(a, groups=[0, 0, 256]),
         "a group below 0": lambda: library.filter_pass(a, {0}, {0}, [-1, 0, 0]),
         "a fact layer": lambda: library.fact_layer(f, 2**64),
@@ -1579,6 +1751,19 @@ def floorless(library, file, floor=0, goals=None, groups=None):
     return true_choose(library, file, 0, goals, groups)
 
 
+def left_counted(library, file, goal, groups=None):
+    return len(library.filter_pass(file, range(len(library.partition(file))), goal, groups).live)
+
+
+def placeless(library, file, floor=0, goals=None, groups=None):
+    answer = true_choose(library, file, floor, goals, groups)
+    return kitchen.NoSelection(0) if isinstance(answer, kitchen.NoSelection) else answer
+
+
+def untried_bound(job):
+    return kitchen.Library().bound(kitchen.written(job), job.sets[0]) if job.sets[0] else None
+
+
 def cut_to_fit(library, file, article, name):
     return true_name(library, file, article, kitchen.named(name)[: kitchen.LONGEST_NAME])
 
@@ -1602,6 +1787,12 @@ FAULTS = {
     12: ("a refusal of a change is not tried", changing, "try_refused", lambda file, change, refusal: None, "change"),
     13: ("save_name cuts a name that is too long", kitchen.Library, "save_name", cut_to_fit, "module"),
     14: ("save_clashes saves wishes", kitchen.Library, "save_clashes", kitchen.Library.save_wishes, "module"),
+    15: ("bound counts the articles that a pass leaves", kitchen.Library, "bound", left_counted, "module"),
+    16: ("choose answers 14 at 0 whatever falls short", kitchen.Library, "choose", placeless, "module"),
+    17: ("the place of 14 is told the other way round", telling, "NO_KITCHEN_AT",
+         {place: telling.NO_KITCHEN_AT[1 - place] for place in (0, 1)}, "drawn"),
+    18: ("the place of 14 is not tried", asking, "try_place", lambda job, place: None, "stand_in"),
+    19: ("what the library says of the bound is not tried", commands, "bound", untried_bound, "bound"),
 }  # fmt: skip
 
 

@@ -30,7 +30,7 @@ import drawn  # noqa: E402
 import kitchen  # noqa: E402
 import reader as reference  # noqa: E402
 import rules as second  # noqa: E402
-from showroom import asking, changing, commands, files, guide, reasons, rules, texts, words  # noqa: E402
+from showroom import asking, changing, commands, files, guide, reasons, rules, telling, texts, words  # noqa: E402
 
 TOOL = ROOT / "tools" / "job"
 RULES = (ROOT / "docs" / "RULES.md").read_text()
@@ -691,6 +691,7 @@ def explanations(folder):
         check(len(text.splitlines()) == 3, f"explain {number}, three lines: {text}")
     check(reasons.NO_KITCHEN in reasons.explained(14), "14 in words")
     check(reasons.NO_PLAN.format("the horizon") in reasons.explained(15), "15 in words")
+    places_explained()
     small, short = A[:29] + b"\x02" + A[30:], N[:-1]
     for number, place, file, phrase in [
         (6, 29, small, "Byte 29 is number 1 of the 8 bytes that hold the clashes of article 1: the set of 1; only numbers below 1"),
@@ -722,6 +723,9 @@ def explanations(folder):
         (("6", path), b"", reasons.explained(6, None, kitchen.Reader(small)).encode()),
         (("11", "1"), b"", reasons.explained(11, 1).encode()),
         (("16",), b"", reasons.explained(16).encode()),
+        (("14", "0"), b"", reasons.explained(14, 0).encode()),
+        (("14", "1", path), b"", reasons.explained(14, 1, kitchen.Reader(small)).encode()),
+        (("14", "2"), b"", reasons.explained(14, 2).encode()),
     ):
         equal(quick("explain", *arguments, stdin=stdin), (0, output, ""), f"explain {arguments}")
     for number in ("0", "17", "x", "", "9" * 5000, "٣", os.fsdecode(b"\xff")):
@@ -730,6 +734,30 @@ def explanations(folder):
     for arguments, phrase in ((("6", "x", path), "'x' is no place; expected a number"), (("6", "1", path, path), "unrecognized")):
         status, output, errors = quick("explain", *arguments)
         check((status, output) == (2, b"") and phrase in errors, f"explain {arguments}: {errors}")
+
+
+# What counting the wishes says of a kitchen that does not exist, by the place of 14: how it begins, and how it ends.
+COUNTED = {
+    0: ("Counting the wishes already rules such a kitchen out, without a search: ", " add up to fewer wishes than the order has."),
+    1: ("Counting the wishes alone does not rule such a kitchen out: ", " and no combination is left."),
+}
+
+
+def places_explained():
+    """The place of 14: as far as it can be said of a list of goals, and what it means in kitchen."""
+    place = "the index of the first goal in the list that falls short, and the list's length if none does"
+    check(f"The place is {place}.\n" in reasons.explained(14), "the place of 14")
+    for number, goals in ((0, "0 goals"), (1, "1 goal"), (2, "2 goals"), (64, "64 goals"), (10**30, f"{10**30} goals")):
+        text = reasons.explained(14, number)
+        lines = text.splitlines()
+        equal(lines[:1] + lines[2:3], [reasons.explained(14).splitlines()[line] for line in (0, 2)], f"explain 14 {number}")
+        equal(lines[1], f"The place is {place}; here it is {number}.", f"explain 14 {number}")
+        said = f"With {goals} in the list none falls short; with more, the goal of index {number} is the first that does."
+        equal((len(lines), lines[3]), (5, said), f"explain 14 {number}")
+        for other, (start, end) in COUNTED.items():
+            check((start in lines[4] and lines[4].endswith(end)) == (number == other), f"explain 14 {number}: {text}")
+        check(lines[4].endswith("the place is 0 or 1.") == (number > 1), f"explain 14 {number}: {text}")
+        check(text in reasons.explained(14, number, kitchen.Reader(A)), f"explain 14 {number} with a file")
 
 
 # ---- host/kitchen.py
@@ -815,7 +843,7 @@ def host_rest(folder):
     for number in (0, 1, 6, 2**63, 2**64 - 1, 2**63 + 2**32 + 1):
         equal(kitchen.number_of(kitchen.members_of(number)), number, f"the members of {number}")
     equal(kitchen.members_of(2**63 + 5), {0, 2, 63}, "the members of a number")
-    equal([repr(kitchen.NoSelection), repr(kitchen.NoPlan)], ["NoSelection", "NoPlan"], "answers without a value")
+    equal([repr(kitchen.NoSelection(1)), repr(kitchen.NoPlan)], ["NoSelection(place=1)", "NoPlan"], "that there is none")
     text, loop = folder / "no library.so", folder / "loop.so"
     text.write_text("no library")
     loop.symlink_to(loop)
@@ -828,6 +856,10 @@ def host_rest(folder):
 
 GROUPED = "choice\nwishes: a, b, c\norder: a, b, c\narticle\nwishes: a\narticle\nwishes: a, b\nclashes: #0\narticle\nwishes: c\n"  # B
 NO_KITCHEN = "choice\nwishes: a, b\norder: a, b\narticle\nwishes: a\narticle\nwishes: b\nclashes: #0\n"
+# Neither has a kitchen, and counting the wishes does not tell it: a wish that no article carries, and wishes carried twice.
+UNCARRIED = "choice\nwishes: a, b\norder: a, b\narticle\nwishes: a\narticle\nwishes: a\n"
+TWICE = UNCARRIED.replace("a, b", "a, b, c") + "article\nwishes: a, b\narticle\nwishes: b, c\nclashes: #0, #1, #2\n"
+EMPTY = "choice\nwishes:\norder:\narticle\n"
 NO_PLAN = "fitting\nhorizon: 4\nfacts: a, b\nstart: a\ngoal: a, b\nstep\nneeds: a\ngives: b\ntakes: a\n"
 # Both facts in one round, and a step that gives both; each is a plan of one round.
 SHORT = "fitting\nhorizon: 2\nfacts: a, b, c\nstart:\ngoal: a, b\nstep\ngives: a\nstep\ngives: b\nstep\ngives: a, b\nstep\ntakes: a\n"
@@ -835,8 +867,12 @@ SHORT = "fitting\nhorizon: 2\nfacts: a, b, c\nstart:\ngoal: a, b\nstep\ngives: a
 TOLD = [
     (KITCHEN, "chosen 1\naside 0\n", kitchen.Selection({1}, {0})),
     (GROUPED, "chosen 1 2\naside 0\n", kitchen.Selection({1, 2}, {0})),
-    ("choice\nwishes:\norder:\narticle\n", "chosen\naside\n", kitchen.Selection(set(), set())),
-    (NO_KITCHEN, "refused 14 at 0\n", kitchen.NoSelection),
+    (EMPTY, "chosen\naside\n", kitchen.Selection(set(), set())),
+    (NO_KITCHEN, "refused 14 at 0\n", kitchen.NoSelection(0)),
+    (CHOICE, "refused 14 at 0\n", kitchen.NoSelection(0)),
+    (UNCARRIED, "refused 14 at 1\n", kitchen.NoSelection(1)),
+    (TWICE, "refused 14 at 1\n", kitchen.NoSelection(1)),
+    ("impossible", "refused 14 at 1\n", kitchen.NoSelection(1)),
     (SHORT, "rounds 1\n1: 2\n", kitchen.Plan([{2}])),
     (SHORT, "rounds 1\n1: 0 1\n", kitchen.Plan([{0, 1}])),
     (SHORT, "rounds 1\n1: 0 1 2\n", kitchen.Plan([{0, 1, 2}])),
@@ -847,8 +883,11 @@ TOLD = [
 NO_ANSWER = [
     "", "\n", "chosen", "chosen\n", "chosen \naside\n", "aside\nchosen\n", "rounds\n", "rounds \n", "rounds 1\n", "rounds -1\n", "rounds 1\n1:\n",
     "refused\n", "refused 9 at 0\n", "refused 1 at 0\n", "refused 2 at 45\n", "refused 13 at 0\n", "refused 16 at 0\n", "refused 17 at 0\n",
-    "refused 14 at 1\n", "refused 15 at 1\n", "refused 14 at 0", "refused 15 at 0", "refused 14 at 0\r\n", "refused 15 at 0\r\n", "refused 014 at 0\n",
+    "refused 14 at 2\n", "refused 15 at 1\n", "refused 14 at 0", "refused 15 at 0", "refused 14 at 0\r\n", "refused 15 at 0\r\n", "refused 014 at 0\n",
     "refused 14 at 0\n\n", "refused 15 at 0\n ", " refused 14 at 0\n", "Refused 14 at 0\n", "refused 14 at 0\nrefused 14 at 0\n", "\0", "rounds 1\n1: ٠\n",
+    "refused 14\n", "refused 14 at\n", "refused 14 at \n", "refused 14 at -1\n", "refused 14 at 00\n", "refused 14 at 01\n", "refused 14 at 10\n",
+    "refused 14 at 11\n", "refused 14 at 64\n", "refused 14 at ١\n", "refused 14 at 1", "refused 14 at 1\r\n", "refused 14 at 1\n\n", " refused 14 at 1\n",
+    "refused 14 at 0 1\n", "refused 14 at 0\nrefused 14 at 1\n", "chosen\naside\nrefused 14 at 1\n", "refused 13 at 1\n",
 ]  # fmt: skip
 # A text, an output that cannot be its own, and a part of the message.
 NOT_TOLD = [
@@ -872,15 +911,28 @@ NOT_TOLD = [
     ("A", "chosen 2\naside 0\n", "the set aside is not the one that is defined"),
     ("A", "chosen 2\naside 2\n", "the set aside is not the one that is defined"),
     ("A", "refused 14 at 0\n", "and articles [2] are one"),
+    ("A", "refused 14 at 1\n", "and articles [2] are one"),
+    ("A", "refused 14 at 2\n", 'expected "chosen" and "aside", or "refused 14" at 0 or 1'),
     ("A", "refused 15 at 0\n", 'expected "chosen" and "aside"'),
     ("A", "rounds 0\n", 'expected "chosen" and "aside"'),
     ("A", "rounds 1\n1: 2\n", 'expected "chosen" and "aside"'),
     (GROUPED, "chosen 1 2\naside\n", "the set aside is not the one that is defined"),
     (GROUPED, "chosen 1 2\naside 0 2\n", "the set aside is not the one that is defined"),
     (GROUPED, "refused 14 at 0\n", "it says that there is none"),
+    (GROUPED, "refused 14 at 1\n", "it says that there is none"),
+    (EMPTY, "refused 14 at 0\n", "and articles [] are one"),
+    (EMPTY, "refused 14 at 1\n", "and articles [] are one"),
     (NO_KITCHEN, "chosen 0 1\naside\n", "exclude each other"),
+    (NO_KITCHEN, "refused 14 at 1\n", "the order falls short, so the place would be 0"),
+    (NO_KITCHEN, "refused 14 at 2\n", 'or "refused 14" at 0 or 1'),
+    (CHOICE, "refused 14 at 1\n", "the order falls short, so the place would be 0"),
+    (UNCARRIED, "refused 14 at 0\n", "the order does not fall short, so the place would be 1"),
+    (TWICE, "refused 14 at 0\n", "the order does not fall short, so the place would be 1"),
+    ("impossible", "refused 14 at 0\n", "the order does not fall short, so the place would be 1"),
+    ("impossible", "refused 14 at 2\n", 'or "refused 14" at 0 or 1'),
     ("F", "chosen\naside\n", 'expected "rounds" and the rounds'),
     ("F", "refused 14 at 0\n", 'expected "rounds" and the rounds'),
+    ("F", "refused 14 at 1\n", 'expected "rounds" and the rounds'),
     ("F", "refused 15 at 0\n", "and the rounds [[0], [1, 2]] are one"),
     ("F", "rounds 3\n1: 0\n2: 1 2\n", "expected the rounds 1 to 3"),
     ("F", "rounds 1\n1: 0\n2: 1 2\n", "expected the rounds 1 to 1"),
@@ -924,7 +976,7 @@ def answers():
     for text, output, phrase in NOT_TOLD:
         raised(rules.Broken, phrase, answer, job_of(text), output)
     for output in NO_ANSWER:
-        for text in ("A", "F", "kitchen", NO_KITCHEN, NO_PLAN):
+        for text in ("A", "F", "kitchen", "impossible", NO_KITCHEN, UNCARRIED, NO_PLAN):
             raised(rules.Broken, "", answer, job_of(text), output)
 
 
@@ -946,6 +998,71 @@ def printed_junk():
         asking.printed = real
 
 
+def none_told():
+    """That there is no kitchen, in words and as data: what counting the wishes says is told by the place."""
+    text = texts.stated(NO_KITCHEN.encode())
+    for place, (start, end) in COUNTED.items():
+        first, *rest = telling.told(text, kitchen.NoSelection(place))
+        check(first == reasons.NO_KITCHEN and len(rest) == 1, f"no kitchen, at {place}: {rest}")
+        check(rest[0].startswith(start) and rest[0].endswith(end), f"no kitchen, at {place}: {rest}")
+        expected = {"kind": "choice", "answer": "no such kitchen", "falls_short": place == 0}
+        equal(telling.data(text, kitchen.NoSelection(place)), expected, f"no kitchen, at {place}, as data")
+        equal(commands.status_of(kitchen.NoSelection(place)), commands.NONE, f"the status at {place}")
+    equal(commands.status_of(kitchen.NoPlan), commands.NONE, "the status of no plan")
+    for found in (kitchen.Selection(set(), set()), kitchen.Plan([])):
+        equal(commands.status_of(found), commands.DONE, f"the status of {found}")
+
+
+class Bounding:
+    """In place of the library, with the call for the bound: it answers this, or raises it."""
+
+    def __init__(self, answer):
+        self.answer = answer
+
+    def bound(self, file, goal, groups=None):
+        if goal != kitchen.read(file).sets[0]:  # raised and not only counted: this may run in a process of its own
+            raise AssertionError("the goal of a bound is the order")
+        if isinstance(self.answer, Exception):
+            raise self.answer
+        return self.answer
+
+
+def bounds():
+    """How far the wishes can go is told as the library says it, if that is the sum that is defined."""
+    real = asking.Library
+    try:
+        for text, right in ((NO_KITCHEN, 1), (UNCARRIED, 2), (TWICE, 5), (GROUPED, 3), (CHOICE, 0), ("A", 3), ("impossible", 3)):
+            job = job_of(text)
+            asking.Library = lambda: Bounding(right)
+            equal(asking.bound(job), right, f"how far the wishes of {text!r} can go")
+            for answer in (right - 1, right + 1, 2**64 - 1, kitchen.Refused(13, 0), kitchen.Unusable("it is missing")):
+                asking.Library = lambda: Bounding(answer)
+                phrase = str(answer) if isinstance(answer, Exception) else "the sum is not the one that is defined"
+                phrase = f"how far the wishes can go cannot be told: {phrase}; without --bound all else is told"
+                raised(asking.Failed, phrase, asking.bound, job)
+        asking.Library = lambda: Bounding(kitchen.Refused(13, 0))
+        equal(asking.bound(job_of(EMPTY)), None, "an empty order has no bound, and nothing is asked")
+    finally:
+        asking.Library = real
+    no_library_to_bound()
+    text = texts.stated(NO_KITCHEN.encode())
+    for bound, wishes in ((0, "0 wishes"), (1, "1 wish"), (7, "7 wishes")):
+        said = telling.bound_told(text, bound)
+        check(said.startswith("How far the wishes can go: ") and said.endswith(f" adds up to {wishes}, each counted as often as it is carried; the order has 2."), said)
+
+
+def no_library_to_bound():
+    """Without a library nothing is told if --bound is asked for."""
+    real, path = asking.printed, kitchen.library_path
+    asking.printed, kitchen.library_path = lambda file, limit=None: b"refused 14 at 0\n", lambda: None
+    try:
+        missing = "libkitchen.so is missing; build it with tools/library"
+        said = f"how far the wishes can go cannot be told: {missing}; without --bound all else is told\n"
+        equal(quick("advise", "-", "--bound", stdin=NO_KITCHEN.encode()), (1, b"", said), "--bound without a library")
+    finally:
+        asking.printed, kitchen.library_path = real, path
+
+
 def keeps(trial, *arguments):
     """Whether a trial finds no rule broken."""
     try:
@@ -955,9 +1072,15 @@ def keeps(trial, *arguments):
         return False
 
 
+def most_carried(job, groups, live, goal):
+    """The sum of all contributions to a goal: of each group, what the live article that carries most of it carries."""
+    best = [max((len(job.articles[i].wishes & goal) for i in live if groups[i] == group), default=0) for group in set(groups)]
+    return sum(best)
+
+
 def choice_rules():
     """The rules of a choice, beside reference/ on drawn jobs: every set of articles is tried."""
-    source, found, none = random.Random(3), 0, 0
+    source, found, none, short = random.Random(3), 0, 0, 0
     for job in [drawn.drawn_choice(source) for _ in range(300)]:
         file = reference.written(job)
         mine, n = kitchen.read(file), len(job.articles)
@@ -975,11 +1098,25 @@ def choice_rules():
             expected = kitchen.Selection(selections[0], struck)
             equal(asking.choice_answer(mine, second.offer(file)), expected, f"what the second program prints of {job}")
         found, none = found + bool(selections), none + (not selections)
+        short += no_selection_at(job, mine, selections)
     check(found > 50 and none > 50, f"{found} jobs with a selection, {none} without")
+    check(short > 50 and none - short > 10, f"{none} jobs without a selection, of which {short} fall short")
     for job in [drawn.wide_choice(source) for _ in range(10)]:
         mine, every = kitchen.read(reference.written(job)), set(range(64))
         struck = every - second.supported(job, second.own_groups(job), every, job.order)
         equal(rules.set_aside(mine), struck, "the set aside of 64 articles")
+        equal(rules.own_sum(mine), most_carried(job, second.own_groups(job), every, job.order), "the sum of 64 articles")
+
+
+def no_selection_at(job, mine, selections):
+    """Of the places of 14 only the right one is taken, if there is no selection. Answers whether the order falls short."""
+    bound = most_carried(job, second.own_groups(job), range(len(job.articles)), job.order)
+    equal(rules.own_sum(mine), bound, f"the sum of {job}")
+    short = bound < len(job.order)
+    check(not (short and selections), f"the order falls short, and {selections} are selections of {job}")
+    taken = [place for place in range(3) if keeps(asking.choice_answer, mine, f"refused 14 at {place}\n")]
+    equal(taken, [] if selections else [0 if short else 1], f"the places of 14 that are taken of {job}")
+    return short
 
 
 def drawn_rounds(job, source, most):
@@ -1550,7 +1687,7 @@ def ended(folder):
 
 COMMANDS = {
     "ask": ("TEXT", "--order LIST", "--next N", "--json", "- for standard input"),
-    "advise": ("TEXT", "--order LIST", "- for standard input"),
+    "advise": ("TEXT", "--order LIST", "--bound", "- for standard input", "needs tools/library"),
     "write": ("TEXT", "--order LIST", "-o FILE", "- for standard input", "standard output"),
     "read": ("FILE", "- for standard input"),
     "show": ("FILE", "- for standard input"),
@@ -1587,6 +1724,11 @@ MISUSED = [
     (("ask", "a", "--next", "many"), "'many' is no count"),
     (("ask", "-", "-"), "standard input can be read only once"),
     (("advise", "a", "b"), "unrecognized arguments: b"),
+    (("advise", "a", "--boun"), "unrecognized arguments: --boun"),
+    (("advise", "a", "--bound", "b"), "unrecognized arguments: b"),
+    (("advise", ROOT / "jobs" / "F.txt", "--bound"), "is a fitting, which --bound does not go with"),
+    (("ask", "a", "--bound"), "unrecognized arguments: --bound"),
+    (("page", "a", "--bound"), "unrecognized arguments: --bound"),
     (("change",), "required: FILE, WHAT"),
     (("change", "a"), "required: WHAT"),
     (("change", "a", "orders", "b"), "invalid choice: 'orders'"),
@@ -1665,6 +1807,7 @@ def helpful(folder):
         "2 the tool was called in another way than it can be",
         '3 there is none: "no such kitchen", "no such plan"',
         "Of several texts: 1 if one failed, else 3 if one has none.",
+        '"no such kitchen" has falls_short, which is true if counting the wishes rules it out without a search;',
         " ".join(guide.CHOICE_EXAMPLE.split()),
         " ".join(guide.FITTING_EXAMPLE.split()),
         guide.CHANGE_EXAMPLE.strip(),
@@ -1680,7 +1823,7 @@ def helpful(folder):
         path.write_text(example)
         equal(quick("write", path), (0, written(example), ""), f"the example of a {name}")
         equal(texts.stated(example.encode()).warnings, [], f"the example of a {name} has no warnings")
-    equal(answer(job_of(guide.CHOICE_EXAMPLE), "refused 14 at 0\n"), kitchen.NoSelection, "no kitchen for the example")
+    equal(answer(job_of(guide.CHOICE_EXAMPLE), "refused 14 at 0\n"), kitchen.NoSelection(0), "no kitchen for the example")
     plan = kitchen.Plan([{0}, {1}])
     equal(answer(job_of(guide.FITTING_EXAMPLE), "rounds 2\n1: 0\n2: 1\n"), plan, "a plan for the example")
     (folder / "larder.job").write_bytes(written(guide.CHOICE_EXAMPLE))
@@ -1705,7 +1848,9 @@ def main():
             tried(part, folder)
         for part in (texts_in_order, comments, large_texts, blanks, there_and_back):
             tried(part)
-        for part in (host_jobs, host_limits, answers, printed_junk, choice_rules, plan_rules, meant, changes_tried):
+        for part in (host_jobs, host_limits, answers, printed_junk, none_told, bounds, choice_rules, plan_rules):
+            tried(part)
+        for part in (meant, changes_tried):
             tried(part)
         for part in (host_rest, standard_input, own_text, terminals, closed_streams, rights, ended, usage, locales, helpful):
             tried(part, folder)

@@ -67,7 +67,10 @@ impl Asked {
             (Question::Choose { job, floor }, Ok((selection, _))) => {
                 (!check::is_selection(job, *floor, selection)).then_some("is no selection")
             }
-            (Question::Choose { .. }, Err(refusal)) => (refusal != (14, 0)).then_some("is refused"),
+            (Question::Choose { .. }, Err((14, place))) => {
+                (place > self.goals.len() as u64).then_some("names no goal of the list")
+            }
+            (Question::Choose { .. }, Err(_)) => Some("is refused"),
             (Question::Plan { job }, Ok((count, _))) if count > job.horizon as u64 => Some("is beyond the horizon"),
             (Question::Plan { job }, Ok((count, _))) => {
                 let (rounds, rest) = reply.rounds.split_at(count as usize);

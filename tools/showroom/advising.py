@@ -10,10 +10,10 @@ concluded: what is said of another horizon is the answer for a job that has it.
 import subprocess
 from collections import namedtuple
 
-from kitchen import CHOICE, NoPlan, NoSelection
+from kitchen import CHOICE, NoPlan, NoSelection, Selection
 from showroom.asking import Failed, asked
 from showroom.rules import both_ways
-from showroom.telling import listed, member_names, told
+from showroom.telling import bound_told, listed, member_names, told
 from showroom.words import counted, names_of, series
 
 PATIENCE = 60  # seconds for the question whether a longer horizon would do: no plan may be long looked for
@@ -48,7 +48,7 @@ def emptied(job, out):
 
 
 def has_selection(job):
-    return asked(job) is not NoSelection
+    return isinstance(asked(job), Selection)
 
 
 # ---- what is found
@@ -81,7 +81,7 @@ def conflict(job):
     rests = []
     for wish in sorted(part):
         kitchen = asked(ordered(job, part - {wish}))
-        if kitchen is NoSelection:
+        if isinstance(kitchen, NoSelection):
             raise Failed("kitchen gave two answers to one question")
         rests.append(Rest(wish, kitchen, has_selection(ordered(job, job.sets[0] - {wish}))))
     carried = set().union(*(record.sets[0] for record in job.records))
@@ -114,7 +114,7 @@ def fewest(job):
 
 def advice(job, answer):
     """What can be said beyond the answer; None if that is a plan."""
-    if answer is NoSelection:
+    if isinstance(answer, NoSelection):
         return conflict(job)
     if answer is NoPlan:
         return horizon(job)
@@ -158,10 +158,10 @@ def horizon_told(text, found):
     return [*lines, f"A horizon of {counted(found.rounds, 'round', 'rounds')} would do; no plan has fewer."]
 
 
-def advised(text, answer):
-    """The answer and the advice, in lines."""
+def advised(text, answer, bound=None):
+    """The answer and the advice, in lines; before them how far the wishes can go, if that is given."""
     found = advice(text.job, answer)
-    lines = told(text, answer)
+    lines = ([] if bound is None else [bound_told(text, bound)]) + told(text, answer)
     if isinstance(found, Articles):
         return lines + listed(standings(text, found))
     if isinstance(found, Conflict):

@@ -6,13 +6,15 @@ import subprocess
 from itertools import islice
 
 from kitchen import CHOICE, Library, NoPlan, NoSelection, Plan, Refused, Selection, Unusable, number_of, written
-from showroom.rules import Broken, try_aside, try_no_plan, try_no_selection, try_plan, try_selection, try_smallest
+from showroom.rules import Broken, own_sum
+from showroom.rules import try_aside, try_no_plan, try_no_selection, try_place, try_plan, try_selection, try_smallest
 
 ROOT = pathlib.Path(__file__).resolve().parent.parent.parent
 # Where the program is in the project, built by `rt check kitchen`, and where in an unpacked distribution.
 PLACES = (ROOT / "target" / "bin" / "kitchen", ROOT / "bin" / "kitchen")
 
 CHOSEN = re.compile(r"chosen((?: [0-9]{1,2})*)\naside((?: [0-9]{1,2})*)\n")
+NO_CHOICE = re.compile(r"refused 14 at ([01])\n")
 ROUNDS = re.compile(r"rounds (0|[1-9][0-9]?)\n((?:[0-9]{1,2}:(?: [0-9]{1,2})*\n)*)")
 
 
@@ -54,12 +56,15 @@ def numbers_in(job, text):
 
 
 def choice_answer(job, output):
-    if output == "refused 14 at 0\n":
+    none = NO_CHOICE.fullmatch(output)
+    if none:
+        place = int(none[1])
         try_no_selection(job)
-        return NoSelection
+        try_place(job, place)
+        return NoSelection(place)
     found = CHOSEN.fullmatch(output)
     if not found:
-        raise Broken('expected "chosen" and "aside", or "refused 14 at 0"')
+        raise Broken('expected "chosen" and "aside", or "refused 14" at 0 or 1')
     chosen, aside = numbers_in(job, found[1]), numbers_in(job, found[2])
     try_selection(job, chosen)
     try_smallest(job, chosen)
@@ -92,6 +97,24 @@ def asked(job, limit=None):
     except (Broken, UnicodeDecodeError) as trouble:
         shown = repr(output[:200])[1:]
         raise Failed(f"this cannot be what kitchen prints of this job: {trouble}; it printed {shown}") from None
+
+
+def there_is_none(answer):
+    """Whether the answer is that there is no kitchen, or no plan."""
+    return isinstance(answer, NoSelection) or answer is NoPlan
+
+
+def bound(job):
+    """How far the wishes of the order can go, from the library's own call; None if it has no wish."""
+    if not job.sets[0]:
+        return None
+    try:
+        found = Library().bound(written(job), job.sets[0])
+        if found != own_sum(job):
+            raise Broken("the sum is not the one that is defined")
+    except (Unusable, Refused, Broken) as trouble:
+        raise Failed(f"how far the wishes can go cannot be told: {trouble}; without --bound all else is told") from None
+    return found
 
 
 def further(job, first, count):

@@ -8,9 +8,9 @@ import shlex
 import signal
 import sys
 
-from kitchen import CHOICE, FITTING, VERSION, NoPlan, NoSelection, Reader, Refused, written
+from kitchen import CHOICE, FITTING, VERSION, Reader, Refused, written
 from showroom import advising, changing, telling
-from showroom.asking import Failed, asked, further
+from showroom.asking import Failed, asked, bound, further, there_is_none
 from showroom.files import job_table, job_text
 from showroom.guide import GUIDE, SUMMARY
 from showroom.page import page
@@ -119,23 +119,23 @@ def lines_of(lines):
 
 
 def status_of(answer):
-    return NONE if answer is NoSelection or answer is NoPlan else DONE
+    return NONE if there_is_none(answer) else DONE
 
 
 # ---- commands
 
 
 def suits(path, text, options, *words):
-    """A fitting has no order and no further kitchens."""
+    """A fitting has no order, no further kitchens and no wishes."""
     for word in words:
         if getattr(options, word) is not None and kind_of(text) is FITTING:
             raise Misuse(f"{shown(path)} is a fitting, which --{word} does not go with")
     return text
 
 
-def one_text(options):
-    """What the one text of a command states."""
-    return read_text(options.text, suits(options.text, contents(options.text), options, "order"), options.order)
+def one_text(options, *words):
+    """What the one text of a command states. Neither --order nor the options with these words go with a fitting."""
+    return read_text(options.text, suits(options.text, contents(options.text), options, "order", *words), options.order)
 
 
 def ask_one(path, text, options):
@@ -145,12 +145,12 @@ def ask_one(path, text, options):
     text = read_text(path, text, options.order)
     answer = asked(text.job)
     following = None
-    if options.next is not None and answer is not NoSelection:
+    if options.next is not None and not there_is_none(answer):
         following = further(text.job, answer, options.next)
     if options.json:
         return status_of(answer), json_line(path, telling.data(text, answer, following))
     lines = telling.told(text, answer)
-    if answer is NoSelection or answer is NoPlan:
+    if there_is_none(answer):
         lines.append(f"`{advise_command(path, options.order)}` says why.")
     elif text.job.kind is CHOICE:
         lines += telling.aside_told(text, answer.aside)
@@ -198,9 +198,10 @@ def ask(options):
 
 
 def advise(options):
-    text = one_text(options)
+    text = one_text(options, "bound")
+    far = bound(text.job) if options.bound else None  # before the search for an answer
     answer = asked(text.job)
-    emit(lines_of(advising.advised(text, answer)))
+    emit(lines_of(advising.advised(text, answer, far)))
     return status_of(answer)
 
 
@@ -316,7 +317,10 @@ def parser():
     takes_order(part, "texts'")
     part.add_argument("--next", metavar="N", type=several, help="up to N further kitchens, by rising number (needs tools/library)")
     part.add_argument("--json", action="store_true", help="a line of JSON for each text")
-    takes_text(command("advise", advise, "why, why not, what else"))
+    part = command("advise", advise, "why, why not, what else")
+    takes_text(part)
+    sentence = "how far the wishes of the order can go, counted before any search (needs tools/library)"
+    part.add_argument("--bound", action="store_true", default=None, help=sentence)
     part = command("page", draw, "the answer and the advice as one page for a browser")
     takes_text(part)
     takes_target(part, "the page")

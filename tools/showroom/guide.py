@@ -83,7 +83,8 @@ How a job file is changed:
 
 With --json each text has one line:
   text, kind, and answer: "kitchen", "no such kitchen", "plan", "no such plan" or "error"; a kitchen has articles, each
-  with number, name and wishes, and set_aside (and further, with --next); a plan has rounds; an error has a message.
+  with number, name and wishes, and set_aside (and further, with --next); "no such kitchen" has falls_short, which is true
+  if counting the wishes rules it out without a search; a plan has rounds; an error has a message.
 
 Limits:
   a choice   64 articles, 64 wishes

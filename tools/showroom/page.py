@@ -5,8 +5,9 @@ The page claims no more than the answer and the advice. All else on it is in the
 
 import html
 
-from kitchen import CHOICE, NoPlan, NoSelection
+from kitchen import CHOICE, NoPlan, Selection
 from showroom.advising import conflict_told, horizon_told, rest_told, standings
+from showroom.asking import there_is_none
 from showroom.rules import both_ways
 from showroom.telling import article_rows, member_names, round_rows, told
 from showroom.words import called, counted, names_of, printed, series
@@ -33,6 +34,7 @@ p, th, td { white-space: pre-wrap; }
 .answer { margin-bottom: 1rem; padding: .25rem 1rem; border-left: .4rem solid var(--yes); background: var(--band); }
 .answer.none { border-color: var(--no); }
 .answer p { font-size: 1.1rem; font-weight: 600; }
+.answer p + p { font-size: 1rem; font-weight: 400; }
 .key { color: var(--soft); font-size: .9rem; }
 .box { overflow: auto; width: fit-content; max-width: 100%; max-height: max(85vh, 32rem);
   border: 1px solid var(--line); border-radius: .3rem; }
@@ -106,7 +108,8 @@ def element(tag, *parts, **attributes):
 
 
 def paragraphs(lines):
-    return inside(element("p", line) for line in lines)
+    """The lines that are sentences. Those of a list, which are indented, are a table here."""
+    return inside(element("p", line) for line in lines if not line.startswith(" "))
 
 
 def section(title, *parts):
@@ -182,8 +185,7 @@ def articles_section(text, advice):
 
 
 def conflict_section(text, advice):
-    """The sentences of the advice. Its list, which is indented there, is a table here."""
-    sentences = paragraphs(line for line in conflict_told(text, advice) if not line.startswith(" "))
+    sentences = paragraphs(conflict_told(text, advice))
     if len(advice.part) == 1:
         return section("Why not", sentences)
     rests = texts_table("Kitchens for the others of these wishes", [rest_told(text, rest) for rest in advice.rests])
@@ -229,7 +231,7 @@ def clash_grid(text, chosen):
 
 
 def choice_parts(text, answer, advice):
-    found = answer is not NoSelection
+    found = isinstance(answer, Selection)
     chosen = answer.articles if found else set()
     yield chosen_table(text, chosen)
     yield articles_section(text, advice) if found else conflict_section(text, advice)
@@ -291,7 +293,7 @@ def fitting_parts(text, answer, advice):
 
 def page(title, text, answer, advice):
     title = printed(title.encode("utf-8", "surrogateescape"))
-    kind = "answer none" if answer is NoSelection or answer is NoPlan else "answer"
+    kind = "answer none" if there_is_none(answer) else "answer"
     parts = choice_parts if text.job.kind is CHOICE else fitting_parts
     head = [
         element("meta", charset="utf-8"),
@@ -300,6 +302,6 @@ def page(title, text, answer, advice):
         element("title", title),
         element("style", Markup(STYLE)),
     ]
-    first = element("div", element("p", told(text, answer)[0]), class_=kind)
+    first = element("div", paragraphs(told(text, answer)), class_=kind)
     main = element("main", element("h1", title), first, *parts(text, answer, advice))
     return "<!DOCTYPE html>\n" + element("html", element("head", *head), element("body", main), lang="en") + "\n"

@@ -1,12 +1,24 @@
 """Refusals in words: what a reason means, and what is at its place in a file."""
 
-from kitchen import CHOICE
+from kitchen import CHOICE, NO_SELECTION
 from showroom.words import called, counted, quoted, series
 
 NO_KITCHEN = (
     "No such kitchen exists: whatever articles are put together, a wish of the order is not covered, or two of the "
     "articles exclude each other. At least one wish has to be given up, or the catalogue has to change."
 )
+# What the place of 14 says in the program kitchen, whose only goal is the order.
+NO_KITCHEN_AT = {
+    0: (
+        "Counting the wishes already rules such a kitchen out, without a search: the articles form groups in which all "
+        "exclude each other, so a kitchen has at most one of each group; even if every group gave the one that carries "
+        "most wishes of the order, that would add up to fewer wishes than the order has."
+    ),
+    1: (
+        "Counting the wishes alone does not rule such a kitchen out: it takes a look at how the articles can be combined, "
+        "and no combination is left."
+    ),
+}
 NO_PLAN = (
     "No such plan exists: whatever steps are done in whatever rounds, the goal is not reached within {}. "
     "Either the horizon has too few rounds, or these steps cannot reach the goal at all."
@@ -86,8 +98,10 @@ REASONS = {
     ),
     14: (
         "there is no selection whose number is the floor or greater",
-        None,
-        "The file is in order. With the floor 0, as in the program kitchen, this means: " + NO_KITCHEN,
+        "the index of the first goal in the list that falls short, and the list's length if none does",
+        "The file is in order. A goal falls short if it has more wishes than the sum of its pass says; then there is no "
+        "selection at all, whatever the floor. With the floor 0, as in the program kitchen, 14 means: "
+        + NO_KITCHEN,
     ),
     15: (
         "there is no plan whose count of rounds is the horizon or less",
@@ -168,6 +182,16 @@ def place_in_file(number, place, reader):
     return "\n".join(lines)
 
 
+def none_at(place):
+    """What the place of 14 says, of a list of goals and in the program kitchen."""
+    goals = counted(place, "goal", "goals")
+    meaning = f"this means: {NO_KITCHEN_AT[place]}" if place in NO_KITCHEN_AT else "the place is 0 or 1."
+    return (
+        f"With {goals} in the list none falls short; with more, the goal of index {place} is the first that does.\n"
+        f"In the program kitchen, whose only goal is the order, {meaning}"
+    )
+
+
 def explained(number, place=None, reader=None):
     """A refusal in words, and what is at its place if a file was read."""
     wrong, meaning, remark = REASONS[number]
@@ -177,5 +201,6 @@ def explained(number, place=None, reader=None):
     else:
         lines.append(f"The place is {meaning}" + ("." if place is None else f"; here it is {place}."))
     lines.append(remark)
+    lines.append(none_at(place) if number == NO_SELECTION and place is not None else "")
     lines.append(place_in_file(number, place, reader) if reader else "")
     return "\n".join(line for line in lines if line) + "\n"

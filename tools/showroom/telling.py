@@ -1,7 +1,7 @@
 """Answers in words, by the names that the text has, and as data for programs."""
 
 from kitchen import CHOICE, NoPlan, NoSelection
-from showroom.reasons import NO_KITCHEN, NO_PLAN
+from showroom.reasons import NO_KITCHEN, NO_KITCHEN_AT, NO_PLAN
 from showroom.words import called, counted, names, names_of, printed
 
 WIDEST = 40  # columns of a name in a list
@@ -62,11 +62,21 @@ def rounds_told(text, rounds):
 
 def told(text, answer):
     """An answer in lines."""
-    if answer is NoSelection:
-        return [NO_KITCHEN]
+    if isinstance(answer, NoSelection):
+        return [NO_KITCHEN, NO_KITCHEN_AT[answer.place]]
     if answer is NoPlan:
         return [NO_PLAN.format(counted(text.job.horizon, "round", "rounds"))]
     return kitchen_told(text, answer) if text.job.kind is CHOICE else rounds_told(text, answer.rounds)
+
+
+def bound_told(text, bound):
+    """What the groups contribute to the order, added up."""
+    wishes, order = counted(bound, "wish", "wishes"), len(text.job.sets[0])
+    return (
+        "How far the wishes can go: the articles form groups in which all exclude each other; if every group gives the one "
+        f"that carries most wishes of the order, that adds up to {wishes}, each counted as often as it is carried; the order "
+        f"has {order}."
+    )
 
 
 def further_told(text, kitchens):
@@ -92,8 +102,8 @@ def article_data(text, articles):
 
 def data(text, answer, following=None):
     """An answer as JSON has it."""
-    if answer is NoSelection:
-        return {"kind": "choice", "answer": "no such kitchen"}
+    if isinstance(answer, NoSelection):
+        return {"kind": "choice", "answer": "no such kitchen", "falls_short": answer.place == 0}
     if answer is NoPlan:
         return {"kind": "fitting", "answer": "no such plan", "horizon": text.job.horizon}
     if text.job.kind is not CHOICE:

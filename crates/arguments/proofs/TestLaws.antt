@@ -11,7 +11,7 @@ use lib.ListN.{length, getD}
 use borrow.Author.Tests.{ltb-false}
 use Rattle.sets.proofs.Ranges.{neither}
 use Rattle.reading.specs.declared.Reason.{Reason}
-use Rattle.reading.specs.declared.Reason.the-variants.{OutOfRange, ShortBuffer, FalsePartition, BadGoal}
+use Rattle.reading.specs.declared.Reason.the-variants.{OutOfRange, ShortBuffer, FalsePartition, LiveOutsideFile, BadGoal}
 use Rattle.reading.specs.declared.Refusal.{Refusal}
 use Rattle.reading.specs.declared.Spot.{Spot}
 use Rattle.reading.specs.Got.{got}
@@ -23,10 +23,10 @@ use Rattle.jobfile.proofs.NamingLaws.{jobBy, column-by}
 use Rattle.jobfile.proofs.StatedLaws.{column-length}
 use Rattle.network.specs.Network.{Network, listed, networkOf}
 use Rattle.network.specs.Groups.{firstMisplaced}
-use Rattle.filter.specs.Filter.{firstBad}
+use Rattle.filter.specs.Filter.{outside, badGoal, firstBad}
 use Rattle.network.proofs.ListedLaws.{padded-network}
 use Rattle.arguments.specs.Answers.{Answer, refusal, value, unless, unlessAt, passed, afterTests}
-use Rattle.arguments.specs.Tests.{articleTest, roomTest, layerTest, groupsTest, goalsTest}
+use Rattle.arguments.specs.Tests.{articleTest, roomTest, layerTest, groupsTest, passTest, goalsTest}
 use Rattle.arguments.specs.Meaning.{verdictOf, networkIn}
 
 -- ---- what a call answers
@@ -73,6 +73,11 @@ groups-passed N groups h a =
 
 pub goals-passed : (order : ℕ) (goals : List ℕ) {v : Verdict} → v ≡ verdictOf (goalsTest order goals) → v ≡ Verdict.Accepted → firstBad order goals ≡ none
 goals-passed order goals h a = at-passed (firstBad order goals) BadGoal passed h a
+
+pub pass-passed : (articles order live goal : ℕ) {v : Verdict} → v ≡ verdictOf (passTest articles order live goal) → v ≡ Verdict.Accepted → (outside articles live ≡ false) × (badGoal order goal ≡ false)
+pass-passed articles order live goal h a =
+    let (within, rest) = unless-passed (outside articles live) LiveOutsideFile (unless (badGoal order goal) BadGoal passed) h a in
+    (within, unless-passed (badGoal order goal) BadGoal passed rest a .0)
 
 -- ---- the network that the code has of a choice file
 

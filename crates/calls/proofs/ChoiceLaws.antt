@@ -4,6 +4,7 @@ use mathlib.Core.List.{List, [], _++_}
 use mathlib.Core.Option.{Option, none, some}
 use Prim.Native.Nat.{ℕ, _≤_}
 use lib.ListN.{length, getD, drop}
+use Rattle.sets.specs.Sets.{full}
 use Rattle.reading.specs.declared.Refusal.{Refusal}
 use Rattle.reading.specs.Items.{spots}
 use Rattle.jobfile.specs.declared.Verdict.{Verdict}
@@ -13,11 +14,11 @@ use Rattle.jobfile.specs.Meaning.{choiceRead}
 use Rattle.jobfile.specs.Read.{read, readJob, choices}
 use Rattle.network.specs.Network.{Network, listed}
 use Rattle.network.specs.Groups.{Partition, groupsTo}
-use Rattle.filter.specs.Filter.{pass, setAside, GoalsWithin}
+use Rattle.filter.specs.Filter.{total, pass, setAside, firstShort, GoalsWithin}
 use Rattle.network.proofs.GroupLaws.{groups-length, lent-right}
 use Rattle.filter.proofs.GoalLaws.{goals-within}
 use Rattle.network.proofs.ListedLaws.{groups-listed}
-use Rattle.filter.proofs.WishLaws.{pass-listed}
+use Rattle.filter.proofs.WishLaws.{pass-listed, total-listed}
 use Rattle.choice.specs.declared.Choice.{Choice}
 use Rattle.choice.specs.Choice.{selection, chosen}
 use Rattle.choice.specs.Meaning.{chosenBy}
@@ -26,8 +27,8 @@ use Rattle.arguments.specs.Tests.{roomTest, groupsTest, passTest, goalsTest}
 use Rattle.arguments.specs.Meaning.{verdictOf, networkIn}
 use Rattle.arguments.proofs.TestLaws.{test-refused, through, groups-passed, goals-passed}
 use Rattle.calls.specs.Partition.{partitionIn, partitionOf}
-use Rattle.calls.specs.Pass.{passIn, passOf}
-use Rattle.calls.specs.Choose.{Chosen, chosenOr, chooseIn, chooseOf, searched}
+use Rattle.calls.specs.Pass.{Passed, passedFor, passIn, passOf}
+use Rattle.calls.specs.Choose.{Chosen, chosenOr, chosenFor, chooseIn, chooseOf, searched}
 use Rattle.arguments.proofs.FileLaws.{choice-verdict, file-down, job-down, on-job}
 use Rattle.calls.proofs.CallLaws.{ChoiceRead}
 
@@ -71,10 +72,10 @@ module _ (f groups : List ℕ) (live goal : ℕ) where
 
   module _ (r : ReadChoice) (R : ChoiceRead f r) {v : Verdict} (e : v ≡ verdictOf (groupsTest (networkIn r) groups)) where
     -- over a network and an order: what is made, after the tests
-    abbrev made : Network → Answer ℕ
-    made N = value (pass N (λ u. getD groups u 0) live goal)
+    abbrev made : Network → Answer Passed
+    made N = value (passedFor N (λ u. getD groups u 0) live goal)
 
-    abbrev passOver : Network → ℕ → Answer ℕ
+    abbrev passOver : Network → ℕ → Answer Passed
     passOver N order = afterTests (groupsTest N groups) (afterTests (passTest (N .articles) order live goal) (made N))
 
     on-file-2 : passOver (networkIn r) (r .order) ≡ passOf f groups live goal
@@ -84,25 +85,33 @@ module _ (f groups : List ℕ) (live goal : ℕ) where
     pass-groups q = ap said (test-refused (groupsTest (networkIn r) groups) (afterTests (passTest (r .articles) (r .order) live goal) (made (networkIn r))) e q ∙ on-file-2)
 
     module _ (ok : v ≡ Verdict.Accepted) {t : Verdict} (h : t ≡ verdictOf (passTest (r .articles) (r .order) live goal)) where
-      after-groups : {a : Answer ℕ} → a ≡ afterTests (passTest (r .articles) (r .order) live goal) (made (networkIn r)) → said a ≡ said (passOf f groups live goal)
+      after-groups : {a : Answer Passed} → a ≡ afterTests (passTest (r .articles) (r .order) live goal) (made (networkIn r)) → said a ≡ said (passOf f groups live goal)
       after-groups k = ap said (k ∙ through (groupsTest (networkIn r) groups) (afterTests (passTest (r .articles) (r .order) live goal) (made (networkIn r))) e ok ∙ on-file-2)
 
       pub pass-goal : {x : Refusal} → t ≡ Verdict.Refused x → refusalSaid x ≡ said (passOf f groups live goal)
       pass-goal q = after-groups (test-refused (passTest (r .articles) (r .order) live goal) (made (networkIn r)) h q)
 
-      -- the code looks at wishes only; the pass was made with this live set and this goal, and x is handed on
-      pub pass-made : {x left live′ goal′ : ℕ} → t ≡ Verdict.Accepted → left ≡ pass (listed (r .articles) (r .wishes) []) (λ u. getD groups u 0) live′ goal′ → live′ ≡ live → goal′ ≡ goal → x ≡ left
-          → answered x ≡ said (passOf f groups live goal)
-      pass-made q p same-live same-goal told =
+      -- the code looks at wishes only; the pass was made with this live set and this goal, and x and y are handed on
+      pub pass-made : {x y left sum live′ goal′ : ℕ} → t ≡ Verdict.Accepted
+          → left ≡ pass (listed (r .articles) (r .wishes) []) (λ u. getD groups u 0) live′ goal′ → sum ≡ total (listed (r .articles) (r .wishes) []) (λ u. getD groups u 0) live′ goal′ → live′ ≡ live → goal′ ≡ goal
+          → x ≡ left → y ≡ sum → answered (record { live = x; sum = y }) ≡ said (passOf f groups live goal)
+      pass-made q p s same-live same-goal told counted =
+          let N = listed (r .articles) (r .wishes) [] in
+          let group : ℕ → ℕ = λ u. getD groups u 0 in
           after-groups
-          (ap (λ (s : ℕ). value s) (told ∙ p ∙ ap₂ (pass (listed (r .articles) (r .wishes) []) (λ u. getD groups u 0)) same-live same-goal ∙ pass-listed (r .articles) (r .wishes) [] (r .clashes) (λ u. getD groups u 0) live goal)
+          (ap₂ (λ (a b : ℕ). value (record { live = a; sum = b }))
+          (told ∙ p ∙ ap₂ (pass N group) same-live same-goal ∙ pass-listed (r .articles) (r .wishes) [] (r .clashes) group live goal)
+          (counted ∙ s ∙ ap₂ (total N group) same-live same-goal ∙ total-listed (r .articles) (r .wishes) [] (r .clashes) group live goal)
           ∙ through (passTest (r .articles) (r .order) live goal) (made (networkIn r)) h q)
 
 -- ---- the choice
 
-pub searched-is : (o : Option ℕ) (aside : ℕ) → searched (chosenBy o aside) ≡ chosenOr o aside
-searched-is none aside = refl
-searched-is (some x) aside = refl
+searched-by : (o : Option ℕ) (aside short : ℕ) → searched (chosenBy o aside short) ≡ chosenOr o aside short
+searched-by none aside short = refl
+searched-by (some x) aside short = refl
+
+pub searched-is : (N : Network) (group : ℕ → ℕ) (goals : List ℕ) (order floor : ℕ) → searched (chosen N group goals order floor) ≡ chosenFor N group goals order floor
+searched-is N group goals order floor = searched-by (selection N order floor) (setAside N group goals) (firstShort N group (full (N .articles)) goals)
 
 module _ (f groups goals : List ℕ) (floor : ℕ) where
   pub choose-down : {v : Verdict} {x : Refusal} → v ≡ choiceRead (read spots choices f) .verdict → v ≡ Verdict.Refused x → refusalSaid x ≡ said (chooseOf f groups goals floor)
@@ -110,7 +119,7 @@ module _ (f groups goals : List ℕ) (floor : ℕ) where
 
   module _ (r : ReadChoice) (R : ChoiceRead f r) {v : Verdict} (e : v ≡ verdictOf (groupsTest (networkIn r) groups)) where
     abbrev chosenOver : Network → ℕ → Answer Chosen
-    chosenOver N order = chosenOr (selection N order floor) (setAside N (λ u. getD groups u 0) goals)
+    chosenOver N order = chosenFor N (λ u. getD groups u 0) goals order floor
 
     abbrev chooseOver : Network → ℕ → Answer Chosen
     chooseOver N order = afterTests (groupsTest N groups) (afterTests (goalsTest order goals) (chosenOver N order))
@@ -139,5 +148,5 @@ module _ (f groups goals : List ℕ) (floor : ℕ) where
           → said (searched c) ≡ said (chooseOf f groups goals floor)
       choose-made q p same-order same-floor =
           after-partition
-          (ap searched (p ∙ ap₂ (chosen (networkIn r) (λ u. getD groups u 0) goals) same-order same-floor) ∙ searched-is (selection (networkIn r) (r .order) floor) (setAside (networkIn r) (λ u. getD groups u 0) goals)
+          (ap searched (p ∙ ap₂ (chosen (networkIn r) (λ u. getD groups u 0) goals) same-order same-floor) ∙ searched-is (networkIn r) (λ u. getD groups u 0) goals (r .order) floor
           ∙ through (goalsTest (r .order) goals) (chosenOver (networkIn r) (r .order)) h q)

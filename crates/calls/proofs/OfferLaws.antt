@@ -21,14 +21,14 @@ use Rattle.jobfile.specs.Meaning.{choiceRead}
 use Rattle.jobfile.specs.Read.{read, choices}
 use Rattle.network.specs.Network.{Network}
 use Rattle.network.specs.Groups.{groupsTo, groupOf}
-use Rattle.filter.specs.Filter.{setAside, badGoal, firstBad}
+use Rattle.filter.specs.Filter.{badGoal, firstBad}
 use Rattle.network.proofs.GroupLaws.{groups-length, groups-right, right-lent}
 use Rattle.choice.specs.declared.Choice.{Choice}
-use Rattle.choice.specs.Choice.{selection, soleGoal, offered}
+use Rattle.choice.specs.Choice.{soleGoal, offered}
 use Rattle.arguments.specs.Answers.{Answer, unless, unlessAt, afterTests, passed, said, refusalSaid}
 use Rattle.arguments.specs.Tests.{groupsTest, goalsTest}
 use Rattle.arguments.specs.Meaning.{networkIn}
-use Rattle.calls.specs.Choose.{Chosen, chosenOr, searched}
+use Rattle.calls.specs.Choose.{Chosen, chosenFor, searched}
 use Rattle.calls.specs.Offer.{offerIn, offerOf}
 use Rattle.arguments.proofs.FileLaws.{choice-verdict, file-down, job-down, on-job}
 use Rattle.calls.proofs.CallLaws.{ChoiceRead}
@@ -60,13 +60,13 @@ abbrev offerOver : Network → ℕ → Answer Chosen
 offerOver N wanted =
     afterTests (groupsTest N (groupsTo N (N .articles)))
     (afterTests (goalsTest wanted (soleGoal wanted))
-    (chosenOr (selection N wanted 0) (setAside N (λ u. getD (groupsTo N (N .articles)) u 0) (soleGoal wanted))))
+    (chosenFor N (λ u. getD (groupsTo N (N .articles)) u 0) (soleGoal wanted) wanted 0))
 
 -- neither is turned down
-own-passed : (N : Network) (wanted : ℕ) → chosenOr (selection N wanted 0) (setAside N (groupOf N) (soleGoal wanted)) ≡ offerOver N wanted
+own-passed : (N : Network) (wanted : ℕ) → chosenFor N (groupOf N) (soleGoal wanted) wanted 0 ≡ offerOver N wanted
 unfolding groupOf
 own-passed N wanted =
-    let answer = chosenOr (selection N wanted 0) (setAside N (groupOf N) (soleGoal wanted)) in
+    let answer = chosenFor N (groupOf N) (soleGoal wanted) wanted 0 in
     sym (ap₂ (λ (a b : Answer (Unit {0})). afterTests a (afterTests b answer)) (groups-passed N) (goal-passed wanted))
 
 -- ---- a file
@@ -80,6 +80,6 @@ module _ (f : List ℕ) where
   offer-made r R p same-order =
       let N = networkIn r in
       ap said (
-      ap searched (p ∙ ap (offered (networkIn r)) same-order) ∙ searched-is (selection N (r .order) 0) (setAside N (groupOf N) (soleGoal (r .order))) ∙ own-passed N (r .order)
+      ap searched (p ∙ ap (offered (networkIn r)) same-order) ∙ searched-is N (groupOf N) (soleGoal (r .order)) (r .order) 0 ∙ own-passed N (r .order)
       ∙ ap₂ offerOver (R .network) (R .wanted) ∙ on-job (λ job. offerIn job) (R .is)
       )

@@ -59,3 +59,7 @@ found-said reason {t} e v n = number-said t v n ∙ sym (ap (λ x. said (foundOr
 
 pub chosen-said : {t : Said Chosen} {chosen : Choice} {x aside : ℕ} → chosen ≡ Choice.Chosen x aside → values t ≡ 1 → selected t ≡ x → setBy t ≡ aside → t ≡ said (searched chosen)
 chosen-said {t} e v n h = choice-is t v n h ∙ sym (ap (λ c. said (searched c)) e)
+
+-- or that it chose nothing, and which goal falls short
+pub none-said : {chosen : Choice} {place short : ℕ} → chosen ≡ Choice.Nothing short → place ≡ short → refusedBy 14 place ≡ said (searched chosen)
+none-said e h = ap (λ (p : ℕ). refusedBy 14 p) h ∙ sym (ap (λ c. said (searched c)) e)

@@ -59,13 +59,14 @@ pub fn partition(file: &[u8], groups: &mut [u8]) -> PartitionAnswer
     PartitionAnswer::Done
 }
 
-// The live articles that are left, or why a pass is refused.
+// The live articles that are left and the sum of all contributions, or why a pass is refused.
 pub enum PassAnswer {
-    Live(ArticleSet),
+    Passed { live: ArticleSet, sum: u64 },
     Refused(Refusal),
 }
 
-// A pass of the filter, by the groups lent: the live articles that are supported.
+// A pass of the filter, by the groups lent: what it leaves live, and what the groups contributed to the
+// goal before anything was struck.
 pub fn pass(file: &[u8], groups: &[u8], live: ArticleSet, goal: u64) -> PassAnswer
     ensures { λ r. ⌜ passTold r ≡ said (passOf (now (file .entry)) (now (groups .entry)) (live .bits) goal) ⌝ }
 {
@@ -83,9 +84,11 @@ pub fn pass(file: &[u8], groups: &[u8], live: ArticleSet, goal: u64) -> PassAnsw
         return PassAnswer::Refused(refusal);
     }
     let wishes = read.wishes;
-    PassAnswer::Live(ArticleSet {
-        bits: filter::pass(&wishes, groups, read.articles, live.bits, goal),
-    })
+    let passed = filter::pass(&wishes, groups, read.articles, live.bits, goal);
+    PassAnswer::Passed {
+        live: ArticleSet { bits: passed.live },
+        sum: passed.sum,
+    }
 }
 
 // A selection with the set aside, or why there is none.
@@ -106,7 +109,7 @@ fn searched(chosen: Choice) -> ChoiceAnswer
             selection: ArticleSet { bits: selection },
             aside: ArticleSet { bits: aside },
         },
-        Choice::Nothing => ChoiceAnswer::Refused(reading::refusal_at(Reason::NoSelection, 0)),
+        Choice::Nothing(at) => ChoiceAnswer::Refused(reading::refusal_at(Reason::NoSelection, at)),
     }
 }
 

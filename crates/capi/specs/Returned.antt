@@ -4,6 +4,7 @@ use mathlib.Core.List.{List, [], _∷_}
 use Prim.Native.Nat.{ℕ}
 use Rattle.reading.specs.declared.Spot.{Spot}
 use Rattle.arguments.specs.Answers.{Said, refusedBy, answered}
+use Rattle.calls.specs.Pass.{Passed}
 use Rattle.calls.specs.Choose.{Chosen}
 
 pub record Returned : Type 0 where
@@ -21,6 +22,9 @@ nothing x = 0 ∷ 0 ∷ []
 
 abbrev pub alone : ℕ → List ℕ
 alone x = x ∷ 0 ∷ []
+
+abbrev pub passedWords : Passed → List ℕ
+passedWords p = p .live ∷ p .sum ∷ []
 
 abbrev pub both : Chosen → List ℕ
 both c = c .selection ∷ c .aside ∷ []

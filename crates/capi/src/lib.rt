@@ -17,7 +17,7 @@ ghost use Rattle.calls.specs.Find.{findOf};
 ghost use Rattle.calls.specs.Compare.{compareOf};
 ghost use Rattle.calls.specs.Save.{saveOf, saveTold};
 ghost use Rattle.changes.specs.Change.{newOrder, newWishes, newClashes, newName};
-ghost use Rattle.capi.specs.Returned.{returned, nothing, alone, both, test, spotted};
+ghost use Rattle.capi.specs.Returned.{returned, nothing, alone, passedWords, both, test, spotted};
 ghost use Rattle.capi.specs.Version.{interfaceNumber};
 use calls::ChoiceAnswer;
 use calls::CompareAnswer;
@@ -32,7 +32,7 @@ use reading::Refusal;
 use sets::ArticleSet;
 
 // The number of this interface, which goes up whenever it changes: KITCHEN_VERSION of the header.
-const VERSION: u32 = 3;
+const VERSION: u32 = 4;
 
 // An answer: two words, and the status 0.
 fn answered(out: &mut [u64; 2], a: u64, b: u64) -> u32
@@ -73,11 +73,11 @@ pub extern "C" fn kitchen_pass(
     goal: u64,
     out: &mut [u64; 2],
 ) -> u32
-    ensures { λ r. ⌜ record { status = r; words = now (out .exit) } ≡ returned alone (said (passOf (now (file .entry)) (now (groups .entry)) live goal)) ⌝ }
+    ensures { λ r. ⌜ record { status = r; words = now (out .exit) } ≡ returned passedWords (said (passOf (now (file .entry)) (now (groups .entry)) live goal)) ⌝ }
 {
     let answer = calls::pass(file, groups, ArticleSet { bits: live }, goal);
     match answer {
-        PassAnswer::Live(s) => answered(out, s.bits, 0),
+        PassAnswer::Passed { live, sum } => answered(out, live.bits, sum),
         PassAnswer::Refused(refusal) => refused(out, refusal),
     }
 }

@@ -1,13 +1,11 @@
 // The choice over a mutex network: the smallest selection at or above a floor, with what the filter
 // set aside.
 ghost use mathlib.Core.Path.{_≡_};
-ghost use mathlib.Core.List.{[]};
-ghost use Prim.Native.Nat.{ℕ, _≤_, _<_};
+ghost use Prim.Native.Nat.{_≤_};
 ghost use lib.ListN.{length, getD};
-ghost use Rattle.sets.specs.Sets.{full};
 ghost use Rattle.network.specs.Network.{listed};
 ghost use Rattle.network.specs.Groups.{Partition};
-ghost use Rattle.filter.specs.Filter.{passes, GoalsWithin};
+ghost use Rattle.filter.specs.Filter.{GoalsWithin};
 ghost use Rattle.network.specs.Tables.{Tabled};
 ghost use Rattle.choice.specs.Choice.{smallest, chosen, unaided, offered};
 ghost use Rattle.choice.specs.Meaning.{foundBy, isSome};
@@ -15,6 +13,7 @@ ghost use Rattle.choice.specs.Meaning.{foundBy, isSome};
 mod find;
 mod least;
 
+use filter::passes;
 use jobfile::ReadChoice;
 use network::partition;
 use network::tables;
@@ -28,10 +27,11 @@ pub enum Found {
     Nothing,
 }
 
-// A selection with the set aside, or that there is no selection.
+// A selection with the set aside; or that there is no selection, with the place of 14: the index of the
+// first goal that falls short, the length of the list if none does.
 pub enum Choice {
     Chosen { selection: u64, aside: u64 },
-    Nothing,
+    Nothing(usize),
 }
 
 // The smallest set of allowed articles, no two of which clash, that covers the need and whose number
@@ -78,30 +78,8 @@ pub fn coverable(
     }
 }
 
-// Goal i of the list.
-fn goal_at(goals: &[u64], i: usize) -> u64
-    requires { ⌜ i < length (now goals) ⌝ }
-    ensures { λ r. ⌜ r ≡ getD (now (goals .entry)) i 0 ⌝ }
-{
-    goals[i]
-}
-
-// The articles that are live after a pass for each goal, in turn.
-fn left_live(wishes: &[u64; 64], n: usize, groups: &[u8], goals: &[u64]) -> u64
-    requires { ⌜ (n ≤ 64) × (n ≤ length (now groups)) × ((u : ℕ) → u < n → getD (now groups) u 0 < n) ⌝ }
-    ensures { λ r. ⌜ r ≡ passes (listed n (now (wishes .entry)) []) (λ u. getD (now (groups .entry)) u 0) (full n) (now (goals .entry)) ⌝ }
-{
-    let mut live = word::full(n);
-    let mut i: usize = 0;
-    while i < goals.len() {
-        live = filter::pass(wishes, groups, n, live, goal_at(goals, i));
-        i += 1;
-    }
-    live
-}
-
-// The choice for an order. The search is among the articles that the filter leaves: every selection
-// lies within them.
+// The choice for an order. If a goal falls short, there is no selection, and no search is made. The
+// search is among the articles that the filter leaves: every selection lies within them.
 pub fn choose(
     wishes: &[u64; 64],
     clashes: &[u64; 64],
@@ -114,14 +92,18 @@ pub fn choose(
     requires { ⌜ (n ≤ 64) × (n ≤ length (now groups)) × Partition (listed n (now wishes) (now clashes)) (λ u. getD (now groups) u 0) × GoalsWithin order (now goals) ⌝ }
     ensures { λ r. ⌜ r ≡ chosen (listed n (now (wishes .entry)) (now (clashes .entry))) (λ u. getD (now (groups .entry)) u 0) (now (goals .entry)) order floor ⌝ }
 {
-    let live = left_live(wishes, n, groups, goals);
+    let reached = passes::pass_each(wishes, groups, n, goals);
+    if reached.short < goals.len() {
+        return Choice::Nothing(reached.short);
+    }
+    let live = reached.live;
     let aside = word::without(word::full(n), live);
     let both = tables::both_ways(clashes);
     let carriers = table::transposed(wishes);
     let found = smallest(wishes, &both, &carriers, live, order, floor);
     match found {
         Found::Set(selection) => Choice::Chosen { selection, aside },
-        Found::Nothing => Choice::Nothing,
+        Found::Nothing => Choice::Nothing(goals.len()),
     }
 }
 

@@ -13,7 +13,7 @@ use lib.Dec.{leb, ltb, eqb}
 use lib.ListN.{length, getD, take, drop, length-take}
 use lib.Pow.{pow-pos, pow-mono}
 use borrow.Author.Tests.{leb-true, le-leb, ltb-true, lt-ltb, eqb-true, eqb-false, eq-eqb, not-true}
-use Rattle.sets.specs.Sets.{_∈_, without, part}
+use Rattle.sets.specs.Sets.{_∈_, without, part, full}
 use Rattle.sets.specs.Ranges.{anyTo}
 use Rattle.sets.specs.First.{firstFrom, LeastFrom, Smallest}
 use Rattle.sets.proofs.Ranges.{both-true, true-both, either-true, any-at, at-any}
@@ -30,8 +30,8 @@ use Rattle.names.specs.Names.{sameList, sameName, lowestNamed}
 use Rattle.names.specs.Likeness.{alike}
 use Rattle.names.proofs.SameLaws.{list-same, agree}
 use Rattle.network.specs.Network.{Network, networkOf, clash}
-use Rattle.network.specs.Groups.{misplaced, firstMisplaced}
-use Rattle.filter.specs.Filter.{outside, badGoal, firstBad, setAside}
+use Rattle.network.specs.Groups.{Partition, misplaced, firstMisplaced}
+use Rattle.filter.specs.Filter.{outside, badGoal, firstBad, setAside, firstShort}
 use Rattle.network.proofs.GroupLaws.{lent-right}
 use Rattle.filter.proofs.GoalLaws.{goals-within}
 use Rattle.choice.specs.Choice.{selection}
@@ -40,8 +40,10 @@ use Rattle.planning.specs.Rounds.{fittingOf, fewest}
 use Rattle.planning.proofs.PlanLaws.{fewest-none, fewest-some}
 use Rattle.arguments.specs.Answers.{Answer, refusal, value, onJob, unless, unlessAt, passed, afterTests, foundOr, Said, refusedBy, answered, said, accepted, leaving}
 use Rattle.arguments.specs.Tests.{roomTest, layerTest, groupsTest, passTest, goalsTest}
+use Rattle.arguments.specs.Meaning.{verdictOf}
+use Rattle.arguments.proofs.TestLaws.{groups-passed, goals-passed}
 use Rattle.demands.specs.Demands.{Exactly, Refuses, Says, Fault, FirstOf, Off, Wrong, absentLayer, shortBuffer, Misplaced, falsePartition, absentArticle, Bad, wrongGoal, wrongGoals, Has, Alike, ChoiceKept, PlanKept}
-use Rattle.calls.specs.Choose.{Chosen, chosenOr, chooseIn}
+use Rattle.calls.specs.Choose.{chosenOr, chosenFor, chooseIn}
 use Rattle.calls.specs.Plan.{planIn, WordsIn}
 use Rattle.demands.proofs.ReasonLaws.{file-no-answer}
 
@@ -90,21 +92,21 @@ pub record Tests {A : Type 0} (a : Answer A) (faults : List Fault) : Type 0 wher
 pub tests-end : {A : Type 0} (a : Answer A) → accepted (said a) ≡ true → Tests a []
 tests-end a t = record { exactly = λ number place. (λ w. taken-not (said a) t number place w, λ w. absurd w) }
 
--- Tests taken together look for these faults. If a call accepts its input, it answers what comes after them. And it is turned down exactly for the
--- first fault of a list: these faults, and after them those for which what comes after the tests is turned down.
+-- Tests taken together look for these faults. If a call accepts its input, they are passed. And it is turned down exactly for the first fault of a
+-- list: these faults, and after them those for which what comes after the tests is turned down.
 pub record Checks (t : Answer (Unit {0})) (faults : List Fault) : Type 1 where
-  pub passes : {A : Type 0} (a : Answer A) → accepted (said (afterTests t a)) ≡ true → afterTests t a ≡ a
+  pub clear : {A : Type 0} (a : Answer A) → accepted (said (afterTests t a)) ≡ true → t ≡ passed
   pub tests : {A : Type 0} {a : Answer A} {more : List Fault} → Tests a more → Tests (afterTests t a) (faults ++ more)
 
 pub checks-passed : Checks passed []
-checks-passed = record { passes = λ a e. refl; tests = λ h. h }
+checks-passed = record { clear = λ a e. refl; tests = λ h. h }
 
 -- a test that finds the place of a fault
 pub checks-at : (o : Option ℕ) (At : ℕ → Type 0) (r : Reason) {t : Answer (Unit {0})} {faults : List Fault} → answers (numberOf r) ≡ false → ((u : ℕ) → Exactly (o ≡ some u) (At u)) → Checks t faults
     → Checks (unlessAt o r t) (record { At = At; number = numberOf r } ∷ faults)
 checks-at (some u) At r stops h c =
     record {
-      passes = λ a e. absurd (true≢false (sym e ∙ stops));
+      clear = λ a e. absurd (true≢false (sym e ∙ stops));
       tests = λ rest. record {
         exactly = λ number place. (
           λ w. inl (sym (same-number (w .0)), h place .0 (ap some (same-place (w .0)))),
@@ -116,7 +118,7 @@ checks-at (some u) At r stops h c =
     }
 checks-at none At r stops h c =
     record {
-      passes = λ a e. c .passes a e;
+      clear = λ a e. c .clear a e;
       tests = λ rest. record {
         exactly = λ number place. (
           λ w. inr (λ p at. Option·none-ne-some p (h p .1 at), c .tests rest .exactly number place .0 w),
@@ -131,9 +133,16 @@ pub checks-unless : (b : Bool) (P : Type 0) (r : Reason) {t : Answer (Unit {0})}
 checks-unless true P r stops h c = checks-at (some 0) (λ p. (p ≡ 0) × P) r stops (λ u. (λ e. (sym (Option·some-injective 0 u e), h .0 refl), λ w. ap some (sym (w .0)))) c
 checks-unless false P r stops h c = checks-at none (λ p. (p ≡ 0) × P) r stops (λ u. (λ e. absurd (Option·none-ne-some u e), λ w. absurd (false≢true (h .1 (w .1))))) c
 
--- if all tests pass, what comes after them is answered
+-- so what comes after them is answered
+pub one-pass : {t : Answer (Unit {0})} {faults : List Fault} → Checks t faults → {A : Type 0} (a : Answer A) → accepted (said (afterTests t a)) ≡ true → afterTests t a ≡ a
+one-pass c a e = ap (λ t. afterTests t a) (c .clear a e)
+
+-- of two one after the other, each is passed
+pub both-clear : {t s : Answer (Unit {0})} {faults more : List Fault} → Checks t faults → Checks s more → {A : Type 0} (a : Answer A) → accepted (said (afterTests t (afterTests s a))) ≡ true → (t ≡ passed) × (s ≡ passed)
+both-clear {s = s} c d a e = (c .clear (afterTests s a) e, d .clear a (sym (ap (λ b. accepted (said b)) (one-pass c (afterTests s a) e)) ∙ e))
+
 pub both-pass : {t s : Answer (Unit {0})} {faults more : List Fault} → Checks t faults → Checks s more → {A : Type 0} (a : Answer A) → accepted (said (afterTests t (afterTests s a))) ≡ true → afterTests t (afterTests s a) ≡ a
-both-pass {s = s} c d a e = let p = c .passes (afterTests s a) e in p ∙ d .passes a (sym (ap (λ b. accepted (said b)) p) ∙ e)
+both-pass c d a e = let (p, q) = both-clear c d a e in ap₂ (λ t s. afterTests t (afterTests s a)) p q
 
 -- ---- each fault, as its test finds it
 
@@ -323,36 +332,41 @@ name-past (r ∷ records) (suc i) l = name-past records i (omega arith)
 -- ---- the choice
 
 -- "no selection" is an answer to input that is accepted, and is never a value
-pub chosen-taken : (o : Option ℕ) (aside : ℕ) → accepted (said (chosenOr o aside)) ≡ true
-chosen-taken none aside = refl
-chosen-taken (some x) aside = refl
+pub chosen-taken : (o : Option ℕ) (aside short : ℕ) → accepted (said (chosenOr o aside short)) ≡ true
+chosen-taken none aside short = refl
+chosen-taken (some x) aside short = refl
 
-pub chosen-none : (o : Option ℕ) (aside : ℕ) → Exactly (Says (said (chosenOr o aside)) 14) (o ≡ none)
-chosen-none none aside = (λ w. refl, λ e. (0, refl))
-chosen-none (some x) aside = (λ w. absurd (no-refusal (w .1)), λ e. absurd (Option·none-ne-some x (sym e)))
+-- it is told with the goal that falls short
+pub chosen-none : (o : Option ℕ) (aside short place : ℕ) → Exactly (said (chosenOr o aside short) ≡ refusedBy 14 place) ((o ≡ none) × (place ≡ short))
+chosen-none none aside short place = (λ e. (refl, sym (same-place e)), λ (e, p). ap (λ (k : ℕ). refusedBy 14 k) (sym p))
+chosen-none (some x) aside short place = (λ e. absurd (no-refusal e), λ (e, p). absurd (Option·none-ne-some x (sym e)))
 
 module _ (groups goals : List ℕ) (floor : ℕ) where
   abbrev group : ℕ → ℕ
   group u = getD groups u 0
 
   pub choice-is : (job : Job (List ℕ)) → accepted (said (chooseIn job groups goals floor)) ≡ true
-      → chooseIn job groups goals floor ≡ chosenOr (selection (networkOf job) (order job) floor) (setAside (networkOf job) group goals)
-  choice-is job t = both-pass (groups-checks (networkOf job) groups) (goals-checks (order job) goals) (chosenOr (selection (networkOf job) (order job) floor) (setAside (networkOf job) group goals)) t
+      → chooseIn job groups goals floor ≡ chosenFor (networkOf job) group goals (order job) floor
+  choice-is job t = both-pass (groups-checks (networkOf job) groups) (goals-checks (order job) goals) (chosenFor (networkOf job) group goals (order job) floor) t
 
-  -- short groups, a false partition and a bad goal are not accepted, so the filter and the search have what they ask for
+  -- a false partition and a bad goal are not accepted, so the filter and the search have what they ask for
+  pub choice-lent : (job : Job (List ℕ)) → accepted (said (chooseIn job groups goals floor)) ≡ true → (groupsTest (networkOf job) groups ≡ passed) × Partition (networkOf job) group × (firstBad (order job) goals ≡ none)
+  choice-lent job t =
+      let N = networkOf job in
+      let (p, q) = both-clear (groups-checks N groups) (goals-checks (order job) goals) (chosenFor N group goals (order job) floor) t in
+      (p, lent-right N group (groups-passed N groups refl (ap verdictOf p) .1), goals-passed (order job) goals refl (ap verdictOf q))
+
   pub choice-kept : (job : Job (List ℕ)) → accepted (said (chooseIn job groups goals floor)) ≡ true → ChoiceKept job group goals floor (said (chooseIn job groups goals floor))
-  choice-kept job t = go (ltb (length groups) (size job)) (firstMisplaced (networkOf job) group) (firstBad (order job) goals) (selection (networkOf job) (order job) floor) refl refl refl t
+  choice-kept job t = subst (λ a. ChoiceKept job group goals floor (said a)) (sym (choice-is job t)) (go (selection (networkOf job) (order job) floor) refl)
     where
-      answer : Bool → Option ℕ → Option ℕ → Option ℕ → Answer Chosen
-      answer short misplaced bad s = afterTests (unless short ShortBuffer (unlessAt misplaced FalsePartition passed)) (afterTests (unlessAt bad BadGoal passed) (chosenOr s (setAside (networkOf job) group goals)))
+      short : ℕ
+      short = firstShort (networkOf job) group (full (size job)) goals
 
-      go : (short : Bool) (misplaced bad s : Option ℕ) → firstMisplaced (networkOf job) group ≡ misplaced → firstBad (order job) goals ≡ bad → selection (networkOf job) (order job) floor ≡ s
-          → accepted (said (answer short misplaced bad s)) ≡ true → ChoiceKept job group goals floor (said (answer short misplaced bad s))
-      go true misplaced bad s p q e t = absurd (false≢true t)
-      go false (some u) bad s p q e t = absurd (false≢true t)
-      go false none (some i) s p q e t = absurd (false≢true t)
-      go false none none none p q e t = (refl, refl, none-exactly (networkOf job) (order job) floor e)
-      go false none none (some x) p q e t = (the-smallest (networkOf job) (order job) floor x e, refl, set-aside (networkOf job) group (lent-right (networkOf job) group p) goals (goals-within (order job) goals q))
+      go : (s : Option ℕ) → selection (networkOf job) (order job) floor ≡ s → ChoiceKept job group goals floor (said (chosenOr s (setAside (networkOf job) group goals) short))
+      go none e = (refl, refl, none-exactly (networkOf job) (order job) floor e)
+      go (some x) e =
+          let (p, ok, right) = choice-lent job t in
+          (the-smallest (networkOf job) (order job) floor x e, refl, set-aside (networkOf job) group ok goals (goals-within (order job) goals right))
 
 -- ---- the planner, and finding by name
 
@@ -432,7 +446,7 @@ alike-exactly a b = (to, back)
         (true-both (sameList (wishes a) (wishes b)) _ (sym (agree (wishes a) (wishes b) s)) (sym (agree (clashes a) (clashes b) t)))))
 
 pub plan-is : (buffer : List ℕ) (job : Job (List ℕ)) → accepted (said (planIn job buffer)) ≡ true → planIn job buffer ≡ foundOr (fewest (fittingOf job) (horizon job)) NoPlan
-plan-is buffer job t = room-checks buffer (horizon job) .passes (foundOr (fewest (fittingOf job) (horizon job)) NoPlan) t
+plan-is buffer job t = one-pass (room-checks buffer (horizon job)) (foundOr (fewest (fittingOf job) (horizon job)) NoPlan) t
 
 -- a front that has as many elements as were asked for
 front-whole : (k : ℕ) (l : List ℕ) → k ≤ length (take k l) → length (take k l) ≡ k

@@ -7,6 +7,7 @@ use mathlib.Core.List.{List, [], _∷_, _++_}
 use Prim.Native.Nat.{ℕ, _≤_, _<_}
 use native.Mathlib.Omega.{arith}
 use lib.ListN.{length, getD, take, drop}
+use Rattle.sets.specs.Sets.{full}
 use Rattle.reading.specs.declared.Reason.{Reason}
 use Rattle.reading.specs.declared.Reason.the-variants.{WrongKind, EndsEarly, OverLimit, ForbiddenBit, EmptyField, AbsentMember, LongName, TrailingBytes, OutOfRange, ShortBuffer, FalsePartition, LiveOutsideFile, BadGoal, NoSelection, NoPlan, NameNotFound}
 use Rattle.reading.specs.Reasons.{numberOf}
@@ -25,7 +26,7 @@ use Rattle.names.specs.Names.{lowestNamed}
 use Rattle.names.specs.Likeness.{alike}
 use Rattle.network.specs.Network.{Selection, networkOf}
 use Rattle.network.specs.Groups.{Partition, groupsTo, groupOf}
-use Rattle.filter.specs.Filter.{pass, setAside}
+use Rattle.filter.specs.Filter.{total, pass, setAside, firstShort}
 use Rattle.network.proofs.GroupLaws.{groups-length, groups-right}
 use Rattle.choice.specs.Choice.{selection}
 use Rattle.choice.proofs.Theorems.{none-exactly, exactly-none}
@@ -37,7 +38,7 @@ use Rattle.arguments.specs.Answers.{Answer, refusal, value, onJob, refusedBy, a
 use Rattle.changes.specs.Change.{Change, isAbsent, newFile}
 use Rattle.drafts.specs.Draft.{draftIn, draftOf, roomFor}
 use Rattle.calls.specs.Partition.{partitionIn, partitionOf}
-use Rattle.calls.specs.Pass.{passIn, passOf}
+use Rattle.calls.specs.Pass.{passedFor, passIn, passOf}
 use Rattle.calls.specs.Choose.{chosenOr, chooseIn, chooseOf}
 use Rattle.calls.specs.Layers.{factLayerIn, factLayerOf, roundLayerIn, roundLayerOf}
 use Rattle.calls.specs.Plan.{planIn, planOf, WordsIn, Buffer}
@@ -48,7 +49,7 @@ use Rattle.calls.specs.Save.{saveOf}
 use Rattle.demands.specs.Demands.{Exactly, Refuses, Says, Off, Wrong, absentLayer, shortBuffer, falsePartition, absentArticle, wrongGoal, wrongGoals, Has, Alike, ChoiceKept, PlanKept}
 use Rattle.demands.specs.Saving.{Given, wrongSaving}
 use Rattle.demands.proofs.ReasonLaws.{file-reason}
-use Rattle.demands.proofs.DemandLaws.{exactly-then, tests-end, accepted-exactly, both-pass, room-checks, layer-checks, groups-checks, pass-checks, goals-checks, file-exactly, file-tests, file-stated-tests, file-taken, file-only, left-exactly, left-taken, left-kept, left-value, name-past, chosen-taken, chosen-none, choice-is, choice-kept, found-taken, found-none, found-some, lowest-exactly, nobody-exactly, alike-exactly, plan-is, plan-kept}
+use Rattle.demands.proofs.DemandLaws.{exactly-then, tests-end, accepted-exactly, one-pass, both-pass, room-checks, layer-checks, groups-checks, pass-checks, goals-checks, file-exactly, file-tests, file-stated-tests, file-taken, file-only, left-exactly, left-taken, left-kept, left-value, name-past, chosen-taken, chosen-none, choice-is, choice-kept, found-taken, found-none, found-some, lowest-exactly, nobody-exactly, alike-exactly, plan-is, plan-kept}
 use Rattle.demands.proofs.SaveLaws.{change-tests, room-on, saved-value}
 
 -- ---- demand 1
@@ -88,13 +89,13 @@ pub demand-1-pass : (file groups : List ℕ) (live goal : ℕ) (number place : �
 demand-1-pass file groups live goal =
     file-tests choices file (λ job. passIn job groups live goal) (λ job.
     groups-checks (networkOf job) groups .tests
-    (pass-checks (size job) (order job) live goal .tests (tests-end (value (pass (networkOf job) (λ u. getD groups u 0) live goal)) refl)))
+    (pass-checks (size job) (order job) live goal .tests (tests-end (value (passedFor (networkOf job) (λ u. getD groups u 0) live goal)) refl)))
 
 pub demand-1-choose : (file groups goals : List ℕ) (floor : ℕ) (number place : ℕ)
     → Exactly (Refuses (said (chooseOf file groups goals floor)) number place) (Wrong choices file (λ job. shortBuffer groups (size job) ∷ falsePartition (networkOf job) groups ∷ wrongGoals (order job) goals ∷ []) number place)
 demand-1-choose file groups goals floor =
     file-tests choices file (λ job. chooseIn job groups goals floor) (λ job.
-    groups-checks (networkOf job) groups .tests (goals-checks (order job) goals .tests (tests-end _ (chosen-taken (selection (networkOf job) (order job) floor) _))))
+    groups-checks (networkOf job) groups .tests (goals-checks (order job) goals .tests (tests-end _ (chosen-taken (selection (networkOf job) (order job) floor) _ _))))
 
 pub demand-1-fact-layer : (file buffer : List ℕ) (k : ℕ) (number place : ℕ)
     → Exactly (Refuses (factLayerOf file k buffer .answer) number place) (Wrong fittings file (λ job. absentLayer k 0 (horizon job) ∷ shortBuffer buffer 32 ∷ []) number place)
@@ -245,19 +246,19 @@ pub demand-2-partition : (file buffer : List ℕ) → accepted (partitionOf file
 demand-2-partition file buffer t =
     let a = onJob (readJob choices file) (λ job. partitionIn job buffer) in
     let (job, end, e, i, s) = file-taken choices file (λ job. partitionIn job buffer) (sym (left-taken (λ groups. groups) (λ groups. tt) buffer a) ∙ t) in
-    let (p, q) = left-value (λ groups. groups) (λ groups. tt) buffer (i ∙ room-checks buffer (size job) .passes _ s) (groups-length (networkOf job) (size job)) in
+    let (p, q) = left-value (λ groups. groups) (λ groups. tt) buffer (i ∙ one-pass (room-checks buffer (size job)) _ s) (groups-length (networkOf job) (size job)) in
     (job, end, e, p, q, groups-right (networkOf job))
 
--- a pass of the filter
+-- a pass of the filter: what it leaves live, and the sum of all contributions before it
 pub demand-2-pass : (file groups : List ℕ) (live goal : ℕ) → accepted (said (passOf file groups live goal)) ≡ true
-    → (job : Job (List ℕ)) × (end : ℕ) × (readJob choices file ≡ got job end) × (said (passOf file groups live goal) ≡ answered (pass (networkOf job) (λ u. getD groups u 0) live goal))
+    → (job : Job (List ℕ)) × (end : ℕ) × (readJob choices file ≡ got job end) × (said (passOf file groups live goal) ≡ answered (record { live = pass (networkOf job) (λ u. getD groups u 0) live goal; sum = total (networkOf job) (λ u. getD groups u 0) live goal }))
 demand-2-pass file groups live goal t =
     let (job, end, e, i, s) = file-taken choices file (λ job. passIn job groups live goal) t in
     (job, end, e, ap said (i ∙ both-pass (groups-checks (networkOf job) groups) (pass-checks (size job) (order job) live goal) _ s))
 
--- the choice
+-- the choice: the smallest selection with the set aside; or 14, with its place
 pub demand-2-choose : (file groups goals : List ℕ) (floor : ℕ) → accepted (said (chooseOf file groups goals floor)) ≡ true
-    → (job : Job (List ℕ)) × (end : ℕ) × (readJob choices file ≡ got job end) × (said (chooseOf file groups goals floor) ≡ said (chosenOr (selection (networkOf job) (order job) floor) (setAside (networkOf job) (λ u. getD groups u 0) goals)))
+    → (job : Job (List ℕ)) × (end : ℕ) × (readJob choices file ≡ got job end) × (said (chooseOf file groups goals floor) ≡ said (chosenOr (selection (networkOf job) (order job) floor) (setAside (networkOf job) (λ u. getD groups u 0) goals) (firstShort (networkOf job) (λ u. getD groups u 0) (full (size job)) goals)))
 demand-2-choose file groups goals floor t =
     let (job, end, e, i, s) = file-taken choices file (λ job. chooseIn job groups goals floor) t in
     (job, end, e, ap said (i ∙ choice-is groups goals floor job s))
@@ -268,7 +269,7 @@ pub demand-2-fact-layer : (file buffer : List ℕ) (k : ℕ) → accepted (factL
 demand-2-fact-layer file buffer k t =
     let a = onJob (readJob fittings file) (λ job. factLayerIn job k buffer) in
     let (job, end, e, i, s) = file-taken fittings file (λ job. factLayerIn job k buffer) (sym (left-taken (λ layer. layer .words) (λ layer. layer .members) buffer a) ∙ t) in
-    let (p, q) = left-value (λ layer. layer .words) (λ layer. layer .members) buffer (i ∙ layer-checks k 0 (horizon job) buffer 32 .passes _ s) (facts-length 32 (fittingOf job) k) in
+    let (p, q) = left-value (λ layer. layer .words) (λ layer. layer .members) buffer (i ∙ one-pass (layer-checks k 0 (horizon job) buffer 32) _ s) (facts-length 32 (fittingOf job) k) in
     (job, end, e, p, q)
 
 pub demand-2-round-layer : (file buffer : List ℕ) (k : ℕ) → accepted (roundLayerOf file k buffer .answer) ≡ true
@@ -276,7 +277,7 @@ pub demand-2-round-layer : (file buffer : List ℕ) (k : ℕ) → accepted (roun
 demand-2-round-layer file buffer k t =
     let a = onJob (readJob fittings file) (λ job. roundLayerIn job k buffer) in
     let (job, end, e, i, s) = file-taken fittings file (λ job. roundLayerIn job k buffer) (sym (left-taken (λ layer. layer .words) (λ layer. layer .members) buffer a) ∙ t) in
-    let (p, q) = left-value (λ layer. layer .words) (λ layer. layer .members) buffer (i ∙ layer-checks k 1 (horizon job) buffer 64 .passes _ s) (rounds-length 32 (fittingOf job) k) in
+    let (p, q) = left-value (λ layer. layer .words) (λ layer. layer .members) buffer (i ∙ one-pass (layer-checks k 1 (horizon job) buffer 64) _ s) (rounds-length 32 (fittingOf job) k) in
     (job, end, e, p, q)
 
 -- the new file of the job with a change, at the front of the buffer, with the later bytes as they were
@@ -308,8 +309,9 @@ pub demand-3-no-selection : (file groups goals : List ℕ) (floor : ℕ) → acc
 demand-3-no-selection file groups goals floor t {job} e =
     let i : chooseOf file groups goals floor ≡ chooseIn job groups goals floor = ap (λ g. onJob g (λ job. chooseIn job groups goals floor)) e in
     let is = i ∙ choice-is groups goals floor job (sym (ap (λ a. accepted (said a)) i) ∙ t) in
-    let (to, back) = chosen-none (selection (networkOf job) (order job) floor) (setAside (networkOf job) (λ u. getD groups u 0) goals) in
-    (λ (place, r). none-exactly (networkOf job) (order job) floor (to (place, sym (ap said is) ∙ r)), λ h. let (place, r) = back (exactly-none (networkOf job) (order job) floor h) in (place, ap said is ∙ r))
+    let short = firstShort (networkOf job) (λ u. getD groups u 0) (full (size job)) goals in
+    let told = chosen-none (selection (networkOf job) (order job) floor) (setAside (networkOf job) (λ u. getD groups u 0) goals) short in
+    (λ (place, r). none-exactly (networkOf job) (order job) floor (told place .0 (sym (ap said is) ∙ r) .0), λ h. (short, ap said is ∙ told short .1 (exactly-none (networkOf job) (order job) floor h, refl)))
 
 -- the planner, on accepted input: the clauses of `PlanKept`. `Buffer` is what the contract says of the words, old before the call and new after it
 pub demand-3-plan : (file old new : List ℕ) → accepted (said (planOf file old)) ≡ true → Buffer (readJob fittings file) old new (planOf file old)

@@ -4,4 +4,5 @@ pub mod DemandLaws
 pub mod SaveLaws
 pub mod Demands
 pub mod Saving
+pub mod Bounds
 pub mod Promises

@@ -37,7 +37,7 @@ use Rattle.drafts.specs.Draft.{drafted, draftIn, roomFor}
 use Rattle.demands.specs.Demands.{Exactly, Refuses, Fault, Off, shortBuffer}
 use Rattle.demands.specs.Saving.{Given, noSuchArticle, wrongSaving, Absent, AfterOldFile, SameHead, OnlyArticle, OnlyChange, asItWas}
 use Rattle.demands.proofs.ReasonLaws.{file-no-answer}
-use Rattle.demands.proofs.DemandLaws.{exactly-then, same-number, same-place, file-exactly, Tests, Checks, tests-end, checks-at, checks-passed, checks-unless, room-checks, outside-exactly, below-exactly}
+use Rattle.demands.proofs.DemandLaws.{exactly-then, same-number, same-place, file-exactly, Tests, Checks, tests-end, checks-at, checks-passed, checks-unless, one-pass, room-checks, outside-exactly, below-exactly}
 
 -- ---- the new file, read
 
@@ -163,7 +163,7 @@ saved-value buffer false new t = go (readJob choices new) refl t
   where
     go : (g : Got (Job (List ℕ))) → readJob choices new ≡ g → accepted (said (roomFor buffer (onJob g (λ job. value new)))) ≡ true → roomFor buffer (onJob (readJob choices new) (λ job. value new)) ≡ value new
     go (refused reason place) e t = absurd (false≢true (sym (file-no-answer choices new e) ∙ t))
-    go (got job end) e t = ap (λ (g : Got (Job (List ℕ))). roomFor buffer (onJob g (λ job. value new))) e ∙ room-checks buffer (length new) .passes (value new) t
+    go (got job end) e t = ap (λ (g : Got (Job (List ℕ))). roomFor buffer (onJob g (λ job. value new))) e ∙ one-pass (room-checks buffer (length new)) (value new) t
 
 -- and it states the job with that change, of an article that is there
 module _ (job : Job (List ℕ)) (ok : Body choice job) (buffer : List ℕ) (change : Change) (given : Given change) (t : accepted (said (roomFor buffer (draftIn change job))) ≡ true) where

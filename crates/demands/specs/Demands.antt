@@ -5,7 +5,7 @@ use mathlib.Core.Bool.{Bool, false}
 use mathlib.Core.List.{List, [], _∷_}
 use Prim.Native.Nat.{ℕ, _≤_, _<_}
 use lib.ListN.{length, getD, take, drop}
-use Rattle.sets.specs.Sets.{_∈_}
+use Rattle.sets.specs.Sets.{_∈_, full}
 use Rattle.sets.specs.First.{LeastFrom}
 use Rattle.reading.specs.declared.Reason.{Reason}
 use Rattle.reading.specs.Reasons.{numberOf, answers}
@@ -13,7 +13,7 @@ use Rattle.reading.specs.Got.{got, refused}
 use Rattle.jobfile.specs.Job.{Job, namesOf, size, wishCount, order, wishes, clashes, horizon}
 use Rattle.jobfile.specs.Read.{readJob}
 use Rattle.network.specs.Network.{Network, Selection, networkOf, clash}
-use Rattle.filter.specs.Filter.{setAside}
+use Rattle.filter.specs.Filter.{setAside, firstShort}
 use Rattle.planning.specs.Rounds.{fittingOf, Plan}
 use Rattle.arguments.specs.Answers.{Said, refusedBy, answered}
 use Rattle.calls.specs.Choose.{Chosen}
@@ -98,10 +98,12 @@ Alike a b = (size a ≡ size b) × (wishCount a ≡ wishCount b) × (order a ≡
 
 -- ---- demand 3: what the choice and the planner answer if their input is accepted
 
--- On a refusal: it is 14, and every selection is below the floor. On a value: it is the smallest selection that is not below the floor; the set aside is
--- the one that is defined; and it shares no article with any selection, above the floor or below it.
+-- On a refusal: it is 14, at its place, the first goal that falls short or the list's length; and every selection is below the floor. On a value: it is
+-- the smallest selection that is not below the floor; the set aside is the one that is defined; and it shares no article with any selection, above the
+-- floor or below it.
 abbrev pub ChoiceKept : Job (List ℕ) → (ℕ → ℕ) → List ℕ → ℕ → Said Chosen → Type 0
-ChoiceKept job group goals floor (refusedBy number place) = (number ≡ 14) × (place ≡ 0) × ((x : ℕ) → Selection (networkOf job) (order job) x → floor ≤ x → ⊥)
+ChoiceKept job group goals floor (refusedBy number place) =
+    (number ≡ 14) × (place ≡ firstShort (networkOf job) group (full (size job)) goals) × ((x : ℕ) → Selection (networkOf job) (order job) x → floor ≤ x → ⊥)
 ChoiceKept job group goals floor (answered c) =
     LeastFrom (Selection (networkOf job) (order job)) floor (c .selection) × (c .aside ≡ setAside (networkOf job) group goals) × ((x u : ℕ) → Selection (networkOf job) (order job) x → u ∈ c .aside → u ∈ x → ⊥)
 

@@ -14,12 +14,12 @@ use Rattle.changes.specs.Change.{alter}
 use Rattle.text.specs.Text.{digits, members, roundTexts}
 use Rattle.network.specs.Network.{clash, together}
 use Rattle.network.specs.Groups.{misplaced, firstMisplaced, suits, opened, joins, groupsTo}
-use Rattle.filter.specs.Filter.{outside, badGoal, firstBad, share, contribution, others, supported, pass, passes, setAside}
+use Rattle.filter.specs.Filter.{outside, badGoal, firstBad, share, contribution, total, others, supported, pass, passes, setAside, fallsShort, firstShort}
 use Rattle.choice.specs.Choice.{isCover, smallest}
 use Rattle.planning.specs.Rounds.{disturb, after, isRound, leads, leadsIn, fewest}
 use Rattle.planning.specs.Layers.{mutexes, opposed, stands, rivals, standing, roundOver, givers, excluded, givenBy, factsOver, factLayer}
 use Rattle.examples.specs.Table.{Hold, rows}
 
 pub table : Hold rows
-unfolding everyTo anyTo sumTo maxTo listTo bit without part meets everyPair setOf unionTo gathered countIn count taking givingUp firstFrom eachAt upFrom kindAt valueAt numberAt countAt mapAt setAt fieldAt lengthAt nameAt choice fitting kinds layoutIn fieldsAt recordAt bodyAt layoutAt read readJob bytesOf fieldBytes nameBytes fieldsBytes partsBytes mapOf joined writeRecord writeEach writeAll writeBody write alter clash together misplaced firstMisplaced suits opened joins groupsTo outside badGoal firstBad share contribution others supported pass passes setAside isCover smallest disturb after isRound leads leadsIn fewest mutexes opposed stands rivals standing roundOver givers excluded givenBy factsOver factLayer sameList digits members roundTexts
-table = (refl, (refl, (refl, (refl, (refl, (refl, (refl, (refl, (refl, (refl, (refl, (refl, (refl, (refl, (refl, (refl, (refl, (refl, (refl, (refl, (refl, (refl, (refl, (refl, (refl, (refl, (refl, (refl, (refl, (refl, (refl, (refl, (refl, (refl, (refl, (refl, (refl, (refl, (refl, (refl, (refl, (refl, (refl, (refl, (refl, (refl, (refl, (refl, (refl, (refl, (refl, (refl, (refl, (refl, (refl, (refl, (refl, (refl, (refl, (refl, (refl, (refl, (refl, (refl, (refl, (refl, (refl, (refl, (refl, (refl, (refl, (refl, (refl, (refl, (refl, (refl, (refl, (refl, (refl, (refl, (refl, (refl, (refl, (refl, (refl, (refl, (refl, (refl, (refl, (refl, (refl, (refl, (refl, (refl, (refl, (refl, (refl, (refl, (refl, (refl, (refl, (refl, tt))))))))))))))))))))))))))))))))))))))))))))))))))))))))))))))))))))))))))))))))))))))))))))))))))))))
+unfolding everyTo anyTo sumTo maxTo listTo bit without part meets everyPair setOf unionTo gathered countIn count taking givingUp firstFrom eachAt upFrom kindAt valueAt numberAt countAt mapAt setAt fieldAt lengthAt nameAt choice fitting kinds layoutIn fieldsAt recordAt bodyAt layoutAt read readJob bytesOf fieldBytes nameBytes fieldsBytes partsBytes mapOf joined writeRecord writeEach writeAll writeBody write alter clash together misplaced firstMisplaced suits opened joins groupsTo outside badGoal firstBad share contribution total others supported pass passes setAside fallsShort firstShort isCover smallest disturb after isRound leads leadsIn fewest mutexes opposed stands rivals standing roundOver givers excluded givenBy factsOver factLayer sameList digits members roundTexts
+table = (refl, (refl, (refl, (refl, (refl, (refl, (refl, (refl, (refl, (refl, (refl, (refl, (refl, (refl, (refl, (refl, (refl, (refl, (refl, (refl, (refl, (refl, (refl, (refl, (refl, (refl, (refl, (refl, (refl, (refl, (refl, (refl, (refl, (refl, (refl, (refl, (refl, (refl, (refl, (refl, (refl, (refl, (refl, (refl, (refl, (refl, (refl, (refl, (refl, (refl, (refl, (refl, (refl, (refl, (refl, (refl, (refl, (refl, (refl, (refl, (refl, (refl, (refl, (refl, (refl, (refl, (refl, (refl, (refl, (refl, (refl, (refl, (refl, (refl, (refl, (refl, (refl, (refl, (refl, (refl, (refl, (refl, (refl, (refl, (refl, (refl, (refl, (refl, (refl, (refl, (refl, (refl, (refl, (refl, (refl, (refl, (refl, (refl, (refl, (refl, (refl, (refl, (refl, (refl, (refl, (refl, (refl, (refl, (refl, (refl, (refl, (refl, (refl, (refl, tt))))))))))))))))))))))))))))))))))))))))))))))))))))))))))))))))))))))))))))))))))))))))))))))))))))))))))))))))))

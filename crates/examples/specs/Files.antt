@@ -25,6 +25,21 @@ fileLong = fileA ++ (0 ∷ [])
 abbrev pub fileFree : List ℕ
 fileFree = set (take 29 fileA ++ drop 37 fileA) 20 1
 
+-- articles 0 and 1 of A alone: its first 37 bytes, with 2 articles counted in byte 1
+abbrev pub fileApart : List ℕ
+fileApart = set (take 37 fileA) 1 2
+
+-- articles 0 {wish 0}; 1 without wishes; 2 {1}; 0 clashes with 1 and with 2, which do not clash. The order is {0, 1}. The lines are those of A, but
+-- that article 1 has no wishes
+abbrev pub fileCrossed : List ℕ
+fileCrossed =
+    67 ∷ 3 ∷ 2
+    ∷ 3 ∷ 0 ∷ 0 ∷ 0 ∷ 0 ∷ 0 ∷ 0 ∷ 0
+    ∷ 1 ∷ 1 ∷ 0 ∷ 0 ∷ 0 ∷ 0 ∷ 0 ∷ 0 ∷ 0
+    ∷ 2 ∷ 1 ∷ 0 ∷ 0 ∷ 0 ∷ 0 ∷ 0 ∷ 0 ∷ 0
+    ∷ 3 ∷ 2 ∷ 0 ∷ 0 ∷ 0 ∷ 0 ∷ 0 ∷ 0 ∷ 0 ∷ 1 ∷ 0 ∷ 0 ∷ 0 ∷ 0 ∷ 0 ∷ 0 ∷ 0
+    ∷ []
+
 -- B: articles 0 {wish 0}; 1 {0, 1}, which clashes with 0; 2 {2}; the order is {0, 1, 2}. The lines are those of A
 abbrev pub fileB : List ℕ
 fileB =

@@ -16,7 +16,7 @@ use Rattle.planning.specs.Rounds.{fittingOf, isPlan}
 use Rattle.arguments.specs.Answers.{Answer, value, onJob, Said, refusedBy, answered, said, Left}
 use Rattle.changes.specs.Change.{newOrder, newWishes, newClashes, newName}
 use Rattle.calls.specs.Partition.{partitionOf}
-use Rattle.calls.specs.Pass.{passOf}
+use Rattle.calls.specs.Pass.{Passed, passOf}
 use Rattle.calls.specs.Choose.{Chosen, chooseOf}
 use Rattle.calls.specs.Offer.{offerOf}
 use Rattle.calls.specs.Layers.{factLayerOf, roundLayerOf}
@@ -25,10 +25,10 @@ use Rattle.calls.specs.Name.{nameOf}
 use Rattle.calls.specs.Find.{findOf}
 use Rattle.calls.specs.Compare.{compareOf}
 use Rattle.calls.specs.Save.{saveOf}
-use Rattle.capi.specs.Returned.{Returned, returned, nothing, alone, both, test, spotted}
+use Rattle.capi.specs.Returned.{Returned, returned, nothing, alone, passedWords, both, test, spotted}
 use Rattle.capi.specs.Version.{interfaceNumber}
 use Rattle.report.specs.Outcome.{outcomeOf, blankWords, textOf}
-use Rattle.examples.specs.Files.{fileA, fileShort, fileLong, fileB, fileEmpty, fileMany, fileFree, fileNamed, fileF, fileNear, fileG, fileBack}
+use Rattle.examples.specs.Files.{fileA, fileShort, fileLong, fileFree, fileApart, fileB, fileCrossed, fileEmpty, fileMany, fileNamed, fileF, fileNear, fileG, fileBack}
 
 -- what the definitions give, and what the rules say
 pub record Row : Type 1 where
@@ -69,6 +69,10 @@ atFloor file floor = chooseOf file groups (3 ∷ []) floor
 abbrev chosen : ℕ → ℕ → Said Chosen
 chosen x aside = answered (record { selection = x; aside = aside })
 
+-- what a pass keeps live, and its sum
+abbrev keeps : ℕ → ℕ → Said Passed
+keeps left sum = answered (record { live = left; sum = sum })
+
 -- the pairs of rounds that are a plan of a fitting: of a job with n steps the pair of a and b is the number a * 2 ^ n + b
 abbrev planPairs : Job (List ℕ) → ℕ
 planPairs job = setOf (2 ^ size job * 2 ^ size job) (λ i. isPlan (fittingOf job) (i / 2 ^ size job ∷ i % 2 ^ size job ∷ []))
@@ -88,7 +92,7 @@ roundWords keeper0 keeper1 step0 step1 = keeper0 ∷ keeper1 ∷ (zeros 30 ++ (s
 
 -- ---- the examples of the rules
 
--- A: its length and its groups; its selections at floors 0, 5, 6, and none at 7; without its last byte, and with one more
+-- A: its length and its groups; its selections at floors 0, 5, 6, and none at 7, where no goal falls short; without its last byte, and with one more
 abbrev rowsA : List Row
 rowsA =
     is (length fileA) 46
@@ -96,7 +100,7 @@ rowsA =
     ∷ says (atFloor fileA 0) (chosen 4 0)
     ∷ says (atFloor fileA 5) (chosen 5 0)
     ∷ says (atFloor fileA 6) (chosen 6 0)
-    ∷ says (atFloor fileA 7) (refusedBy 14 0)
+    ∷ says (atFloor fileA 7) (refusedBy 14 1)
     ∷ says (atFloor fileShort 0) (refusedBy 2 45)
     ∷ says (atFloor fileLong 0) (refusedBy 8 46)
     ∷ []
@@ -105,9 +109,26 @@ rowsA =
 abbrev rowsB : List Row
 rowsB =
     leaves (partitionOf fileB (nines 3)) (answered tt) (0 ∷ 0 ∷ 1 ∷ [])
-    ∷ says (passOf fileB groups 7 7) (answered 6)
-    ∷ says (passOf fileB groups 7 1) (answered 7)
+    ∷ says (passOf fileB groups 7 7) (keeps 6 3)
+    ∷ says (passOf fileB groups 7 1) (keeps 7 1)
     ∷ says (offerOf fileB) (chosen 6 1)
+    ∷ []
+
+-- how far the wishes can go. A: a sum above the count of its goal. B: passes with only article 0 live, and with none; the choice at a floor above its
+-- only selection, with a goal whose sum is its count, which does not fall short. Articles 0 and 1 of A alone, in one group: the order falls short; of
+-- two goals the second does, since the pass for the first strikes the only article that carries it; a third goal after two that do not; a list without
+-- such a goal; no goals
+abbrev rowsBound : List Row
+rowsBound =
+    says (passOf fileA groups 7 3) (keeps 7 3)
+    ∷ says (passOf fileB groups 1 7) (keeps 0 1)
+    ∷ says (passOf fileB groups 0 7) (keeps 0 0)
+    ∷ says (chooseOf fileB groups (7 ∷ []) 7) (refusedBy 14 1)
+    ∷ says (chooseOf fileApart groups (3 ∷ []) 0) (refusedBy 14 0)
+    ∷ says (chooseOf fileApart groups (1 ∷ 2 ∷ []) 0) (refusedBy 14 1)
+    ∷ says (chooseOf fileApart groups (1 ∷ 1 ∷ 2 ∷ 1 ∷ []) 0) (refusedBy 14 2)
+    ∷ says (chooseOf fileApart groups (1 ∷ []) 0) (refusedBy 14 1)
+    ∷ says (chooseOf fileApart groups [] 0) (refusedBy 14 0)
     ∷ []
 
 -- F: the fewest rounds of a plan, the plans of two rounds, and no plan within horizon 1. G: the same two; fact layers 1 and 2: the two facts are mutex
@@ -198,9 +219,10 @@ handed status first second = record { status = status; words = first ∷ second 
 abbrev rowsC : List Row
 rowsC =
     is (returned nothing (partitionOf fileA (nines 4) .answer)) (handed 0 0 0)
-    ∷ is (returned alone (said (passOf fileB groups 7 7))) (handed 0 6 0)
+    ∷ is (returned passedWords (said (passOf fileB groups 7 7))) (handed 0 6 3)
     ∷ is (returned both (said (chooseOf fileB groups (7 ∷ []) 0))) (handed 0 6 1)
     ∷ is (returned both (said (atFloor fileShort 0))) (handed 2 45 0)
+    ∷ is (returned both (said (atFloor fileA 7))) (handed 14 1 0)
     ∷ is (returned alone (factLayerOf fileG 1 (nines 33) .answer)) (handed 0 3 0)
     ∷ is (returned alone (roundLayerOf fileG 1 (nines 65) .answer)) (handed 0 (2 ^ 32 + 2 ^ 33) 0)
     ∷ is (returned alone (said (planOf fileF (nines 3)))) (handed 0 2 0)
@@ -212,15 +234,18 @@ rowsC =
     ∷ is (returned alone (saveOf fileA (newWishes 1 1) (nines 46) .answer)) (handed 0 46 0)
     ∷ is (returned alone (saveOf fileA (newClashes 1 2) [] .answer)) (handed 6 29 0)
     ∷ is (returned alone (saveOf fileA (newName 1 (nines 257)) [] .answer)) (handed 7 37 0)
-    ∷ is interfaceNumber 3
+    ∷ is interfaceNumber 4
     ∷ []
 
--- what the program prints, in bytes: "chosen 1 2" and "aside 0" of B; "rounds 2", "1: 0" and "2: 1 2" of F; "refused 2 at 45"
+-- what the program prints, in bytes: "chosen 1 2" and "aside 0" of B; "rounds 2", "1: 0" and "2: 1 2" of F; "refused 2 at 45"; "refused 14 at 0" of articles 0 and
+-- 1 of A alone, and "refused 14 at 1" of two articles that clash and are in different groups
 abbrev rowsText : List Row
 rowsText =
     is (textOf (outcomeOf fileB blankWords) blankWords) (99 ∷ 104 ∷ 111 ∷ 115 ∷ 101 ∷ 110 ∷ 32 ∷ 49 ∷ 32 ∷ 50 ∷ 10 ∷ 97 ∷ 115 ∷ 105 ∷ 100 ∷ 101 ∷ 32 ∷ 48 ∷ 10 ∷ [])
     ∷ is (textOf (outcomeOf fileF blankWords) (1 ∷ 6 ∷ [])) (114 ∷ 111 ∷ 117 ∷ 110 ∷ 100 ∷ 115 ∷ 32 ∷ 50 ∷ 10 ∷ 49 ∷ 58 ∷ 32 ∷ 48 ∷ 10 ∷ 50 ∷ 58 ∷ 32 ∷ 49 ∷ 32 ∷ 50 ∷ 10 ∷ [])
     ∷ is (textOf (outcomeOf fileShort blankWords) blankWords) (114 ∷ 101 ∷ 102 ∷ 117 ∷ 115 ∷ 101 ∷ 100 ∷ 32 ∷ 50 ∷ 32 ∷ 97 ∷ 116 ∷ 32 ∷ 52 ∷ 53 ∷ 10 ∷ [])
+    ∷ is (textOf (outcomeOf fileApart blankWords) blankWords) (114 ∷ 101 ∷ 102 ∷ 117 ∷ 115 ∷ 101 ∷ 100 ∷ 32 ∷ 49 ∷ 52 ∷ 32 ∷ 97 ∷ 116 ∷ 32 ∷ 48 ∷ 10 ∷ [])
+    ∷ is (textOf (outcomeOf fileCrossed blankWords) blankWords) (114 ∷ 101 ∷ 102 ∷ 117 ∷ 115 ∷ 101 ∷ 100 ∷ 32 ∷ 49 ∷ 52 ∷ 32 ∷ 97 ∷ 116 ∷ 32 ∷ 49 ∷ 10 ∷ [])
     ∷ []
 
 -- a set of articles: it takes one, the same again, one of number 64; it gives one up, one that it lacks, one of number 64; a member, a number that is
@@ -249,4 +274,4 @@ rowsAnswers =
     ∷ []
 
 abbrev pub rows : List Row
-rows = rowsA ++ (rowsB ++ (rowsF ++ (rowsNames ++ (rowsNumbers ++ (rowsSaving ++ (rowsC ++ (rowsText ++ (rowsSets ++ rowsAnswers))))))))
+rows = rowsA ++ (rowsB ++ (rowsBound ++ (rowsF ++ (rowsNames ++ (rowsNumbers ++ (rowsSaving ++ (rowsC ++ (rowsText ++ (rowsSets ++ rowsAnswers)))))))))

@@ -18,7 +18,7 @@ use Rattle.sets.proofs.Made.{in-set, part-set}
 use Rattle.sets.proofs.Counts.{count-gathered, count-part, count-empty}
 use Rattle.network.specs.Network.{Network, ClashFree, together, Covers, Selection}
 use Rattle.network.specs.Groups.{Partition}
-use Rattle.filter.specs.Filter.{share, contribution, total, others, supported, pass, passes, GoalsWithin, setAside}
+use Rattle.filter.specs.Filter.{share, contribution, others, supported, pass, passes, GoalsWithin, setAside}
 use Rattle.network.proofs.NetworkLaws.{apart}
 
 -- what was struck does not come back
@@ -61,12 +61,6 @@ module _ (N : Network) (group : ℕ → ℕ) (ok : Partition N group) where
       le-trans
       (le-of-eq (sym (given-yes (member live u && eqb (group u) (group u)) (count (bitAnd (N .wishes u) p)) (true-both (member live u) (eqb (group u) (group u)) (member-yes live u e) (eq-eqb (group u) (group u) refl)))))
       (max-at (N .articles) (share N group live p (group u)) u l)
-
-  -- if the contributions fall short of the goal, no clash-free set of live articles covers it
-  pub short-sound : (live p x : ℕ) → total N group live p < count p → ClashFree N x → x ⊆ live → Covers N x p → ⊥
-  unfolding total
-  short-sound live p x short free alive cov =
-      omega (arith, reach x free p cov (contribution N group live p) (λ u l e. contribution-at live p u l (part-in x live alive u e)))
 
   -- every member of a clash-free set of live articles that covers the goal is supported
   pub supported-sound : (live p x : ℕ) → ClashFree N x → x ⊆ live → Covers N x p → (v : ℕ) → v < N .articles → v ∈ x → supported N group live p v ≡ true

@@ -1,26 +1,26 @@
--- A pass as loops compute it: the contributions group by group, their sum, and the set of those that are supported. Assumes nothing.
-use mathlib.Core.Path.{_≡_, refl, sym, ap, ap₂, _∙_}
+-- Passes as loops compute them: the contributions group by group, their sum, and the set of those that are supported; one pass after the other. Assumes
+-- nothing.
+use mathlib.Core.Path.{_≡_, refl, sym, ap, ap₂, subst, _∙_}
 use mathlib.Core.Logic.{_⊎_, inl, inr, _≢_}
 use mathlib.Core.Bool.{Bool, true, false, _&&_}
 use mathlib.Core.List.{List}
-use Prim.Native.Nat.{ℕ, _+_, _-_, _^_, _≤_, _<_, max}
+use Prim.Native.Nat.{ℕ, _+_, _^_, _≤_, _<_, max}
 use native.Mathlib.Omega.{arith}
 use native.Mathlib.Numerals.{add-one}
-use native.Mathlib.Nat.{le-trans}
-use native.Mathlib.Decide.{decLe}
+use native.Mathlib.Decide.{decLe, decLt}
 use lib.Bits.{bitAnd, bitOr, and-comm}
 use lib.Dec.{leb, eqb}
-use lib.ListN.{length, getD, drop, drop-of-length-le, set, replicate, length-set, length-replicate, getD-replicate}
-use lib.Seq.{drop-cons, getD-set-same, getD-set-other, ext-getD}
+use lib.ListN.{length, getD, set, replicate, length-set, length-replicate, getD-replicate}
+use lib.Seq.{getD-set-same, getD-set-other, ext-getD}
 use borrow.Author.Tests.{le-leb, lt-leb, eq-eqb, ne-eqb}
 use Rattle.sets.specs.Ranges.{given, sumTo, maxTo, listTo}
 use Rattle.sets.specs.Sets.{member, without, count, setOf}
-use Rattle.sets.proofs.Ranges.{same-cases, given-both, given-zero, given-le, sum-cong, sum-past, sum-but, max-most, max-turn, list-length, list-at}
-use Rattle.sets.proofs.Bits.{bit-and}
+use Rattle.sets.proofs.Ranges.{same-cases, given-both, given-zero, sum-cong, sum-past, sum-but, max-most, max-turn, list-length, list-at}
 use Rattle.sets.proofs.Made.{set-made}
-use Rattle.sets.proofs.Counts.{count-le, count-part, count-without}
+use Rattle.sets.proofs.Counts.{count-le, count-without}
 use Rattle.network.specs.Network.{Network}
-use Rattle.filter.specs.Filter.{share, contribution, others, supported, pass, passes}
+use Rattle.filter.specs.Filter.{share, contribution, total, others, supported, pass, passes, firstShort, liveBefore, sumBefore, Short}
+use Rattle.filter.proofs.BoundLaws.{contribution-most, short-same, passes-next}
 
 -- an answer that is true at the very numbers at which a comparison holds
 pub same-test : (r : Bool) (a b : ℕ) → (a ≤ b → r ≡ true) → (b < a → r ≡ false) → r ≡ leb a b
@@ -87,18 +87,12 @@ module _ (N : Network) (group : ℕ → ℕ) (live p : ℕ) where
       (λ j l. let k : j < 64 = omega (arith, size) in
       held j k ∙ ap (λ (n : ℕ). maxTo n (share N group live p j)) e ∙ sym (list-at 64 (λ j. contribution N group live p j) 0 j k))
 
+  word-at : (best : List ℕ) → best ≡ listTo 64 (λ j. contribution N group live p j) → (j : ℕ) → j < 64 → getD best j 0 ≡ contribution N group live p j
+  word-at best e j l = ap (λ (b : List ℕ). getD b j 0) e ∙ list-at 64 (λ j. contribution N group live p j) 0 j l
+
   -- a goal of one word has at most 64 wishes, and no group contributes more
   pub best-small : (best : List ℕ) → best ≡ listTo 64 (λ j. contribution N group live p j) → p < 2 ^ 64 → (j : ℕ) → j < 64 → getD best j 0 ≤ 64
-  unfolding contribution share
-  best-small best e h j l =
-      let at : getD best j 0 ≡ contribution N group live p j = ap (λ (b : List ℕ). getD b j 0) e ∙ list-at 64 (λ j. contribution N group live p j) 0 j l in
-      omega (
-        arith,
-        at,
-        max-most (N .articles) (share N group live p j) 64 (λ u k.
-            le-trans (given-le (member live u && eqb (group u) j) (count (bitAnd (N .wishes u) p)))
-            (le-trans (count-part (bitAnd (N .wishes u) p) p (λ i. omega (arith, bit-and (N .wishes u) p i))) (count-le 64 p h))),
-      )
+  best-small best e h j l = omega (arith, word-at best e j l, contribution-most N group live p j, count-le 64 p h)
 
   -- no article is of a group past the last
   contribution-past : ((u : ℕ) → u < N .articles → group u < N .articles) → (j : ℕ) → N .articles ≤ j → contribution N group live p j ≡ 0
@@ -108,20 +102,24 @@ module _ (N : Network) (group : ℕ → ℕ) (live p : ℕ) where
       (λ u l. omega (arith, share-other u j (λ e. let f : ⊥ = omega (arith, inside u l) in f))) in
       omega (arith, z)
 
+  -- the 64 words add up to the sum of all contributions
+  pub sum-total : (best : List ℕ) (all : ℕ) → ((u : ℕ) → u < N .articles → group u < N .articles) → N .articles ≤ 64
+      → best ≡ listTo 64 (λ j. contribution N group live p j) → all ≡ sumTo 64 (λ j. getD best j 0) → all ≡ total N group live p
+  unfolding total
+  sum-total best all inside few e ea =
+      ea
+      ∙ sum-cong 64 (λ j. getD best j 0) (contribution N group live p) (word-at best e)
+      ∙ sum-past (N .articles) 64 (contribution N group live p) few (contribution-past inside)
+
   -- the sum of the 64 words, less that of k, is what the other groups contribute
   pub others-left : (best : List ℕ) (all k : ℕ) → ((u : ℕ) → u < N .articles → group u < N .articles) → N .articles ≤ 64
       → best ≡ listTo 64 (λ j. contribution N group live p j) → all ≡ sumTo 64 (λ j. getD best j 0) → k < N .articles
       → all ≡ getD best k 0 + others N group live p k
-  unfolding others
+  unfolding total others
   others-left best all k inside few e ea l =
-      ea
-      ∙ sum-cong 64 (λ j. getD best j 0) (contribution N group live p) at
-      ∙ sum-past (N .articles) 64 (contribution N group live p) few (contribution-past inside)
+      sum-total best all inside few e ea
       ∙ sum-but (N .articles) k (contribution N group live p) l
-      ∙ ap (λ (x : ℕ). x + others N group live p k) (sym (at k (omega arith)))
-    where
-      at : (j : ℕ) → j < 64 → getD best j 0 ≡ contribution N group live p j
-      at j h = ap (λ (b : List ℕ). getD b j 0) e ∙ list-at 64 (λ j. contribution N group live p j) 0 j h
+      ∙ ap (λ (x : ℕ). x + others N group live p k) (sym (word-at best e k (omega arith)))
 
   -- whether v is in the pass
   abbrev pub keeps : ℕ → Bool
@@ -136,13 +134,41 @@ module _ (N : Network) (group : ℕ → ℕ) (live p : ℕ) where
   unfolding pass
   pass-end s v e h = e ∙ ap (λ (n : ℕ). setOf n keeps) h
 
--- ---- passes in turn: from goal i on
+-- ---- passes in turn
 
-module _ (N : Network) (group : ℕ → ℕ) (goals : List ℕ) where
-  pub passes-turn : (live i : ℕ) → i < length goals → passes N group (pass N group live (getD goals i 0)) (drop (i + 1) goals) ≡ passes N group live (drop i goals)
-  unfolding passes
-  passes-turn live i l = rw add-one (sym (ap (passes N group live) (drop-cons goals i 0 l)))
+module _ (N : Network) (group : ℕ → ℕ) (all : ℕ) (goals : List ℕ) where
+  -- before the pass for goal i: this is live, and no goal so far fell short
+  abbrev pub Onward : ℕ → ℕ → Type 0
+  Onward live i = (live ≡ liveBefore N group all goals i) × ((j : ℕ) → j < i → Short N group all goals j → ⊥)
 
-  pub passes-end : (live i : ℕ) → length goals ≤ i → passes N group live (drop i goals) ≡ live
+  pub onward-start : {live : ℕ} → live ≡ all → Onward live 0
   unfolding passes
-  passes-end live i l = ap (passes N group live) (drop-of-length-le goals l)
+  onward-start e = (e, λ j l s. absurd (omega arith))
+
+  -- a pass was made for goal i, with what is live
+  module _ {live i : ℕ} (so-far : Onward live i) (l : i < length goals) {lent goal sum want : ℕ} (same-live : lent ≡ live) (same-goal : goal ≡ getD goals i 0)
+      (es : sum ≡ total N group lent goal) (ew : want ≡ count goal) where
+    sum-is : sum ≡ sumBefore N group all goals i
+    sum-is = es ∙ ap₂ (total N group) (same-live ∙ so-far .0) same-goal
+
+    want-is : want ≡ count (getD goals i 0)
+    want-is = ew ∙ ap count same-goal
+
+    -- the goal falls short
+    pub onward-short : sum < want → firstShort N group all goals ≡ i
+    onward-short h = sym (short-same N group all goals i (inl (l, omega (arith, h, sum-is, want-is)), so-far .1))
+
+    -- it does not
+    pub onward-turn : {next : ℕ} → want ≤ sum → next ≡ pass N group lent goal → Onward next (i + 1)
+    onward-turn {next} h e = (left, λ j k s. go j k s (decLt j i))
+      where
+        left : next ≡ liveBefore N group all goals (i + 1)
+        left = e ∙ ap₂ (pass N group) (same-live ∙ so-far .0) same-goal ∙ rw add-one (sym (passes-next N group all goals i l))
+
+        go : (j : ℕ) → j < i + 1 → Short N group all goals j → Dec (j < i) → ⊥
+        go j k s (yes b) = so-far .1 j b s
+        go j k s (no d) = let here : j ≡ i = omega arith in omega (arith, h, sum-is, want-is, subst (Short N group all goals) here s)
+
+  -- no goal is left
+  pub onward-end : {live i : ℕ} → Onward live i → i ≡ length goals → firstShort N group all goals ≡ i
+  onward-end {i = i} so-far e = sym (short-same N group all goals i (inr e, so-far .1))

@@ -1,11 +1,13 @@
 -- The projection filter (docs/RULES.md, "Sets, groups and filter"; 001, definitions 3 and 4). Groups, live set and projection goal are given.
-use mathlib.Core.Bool.{Bool, not, _&&_, _||_}
+use mathlib.Core.Path.{_≡_}
+use mathlib.Core.Logic.{_⊎_}
+use mathlib.Core.Bool.{Bool, not, cond, _&&_, _||_}
 use mathlib.Core.List.{List, [], _∷_}
 use mathlib.Core.Option.{Option}
-use Prim.Native.Nat.{ℕ, _^_}
+use Prim.Native.Nat.{ℕ, suc, _^_, _<_}
 use lib.Bits.{bitAnd}
-use lib.Dec.{leb, eqb}
-use lib.ListN.{length, getD}
+use lib.Dec.{leb, ltb, eqb}
+use lib.ListN.{length, getD, take}
 use Rattle.sets.specs.Ranges.{given, sumTo, maxTo}
 use Rattle.sets.specs.Sets.{_⊆_, member, part, without, full, setOf, count}
 use Rattle.sets.specs.First.{firstFrom}
@@ -55,6 +57,36 @@ pass N group live p = setOf (N .articles) (λ v. member live v && supported N gr
 unfoldable pub passes : Network → (ℕ → ℕ) → ℕ → List ℕ → ℕ
 passes N group live [] = live
 passes N group live (p ∷ ps) = passes N group (pass N group live p) ps
+
+-- ---- how far the wishes can go
+
+-- whether a goal falls short before its pass: the contributions add up to less than its count
+unfoldable pub fallsShort : Network → (ℕ → ℕ) → ℕ → ℕ → Bool
+fallsShort N group live p = ltb (total N group live p) (count p)
+
+-- the place of 14: which goal of a list is the first that falls short, if each is judged by what is live before its own pass; if none does, the length
+-- of the list
+unfoldable pub firstShort : Network → (ℕ → ℕ) → ℕ → List ℕ → ℕ
+firstShort N group live [] = 0
+firstShort N group live (p ∷ ps) = cond (fallsShort N group live p) 0 (suc (firstShort N group (pass N group live p) ps))
+
+-- the same in words. What is live before the pass for goal i, and the sum of that pass
+abbrev pub liveBefore : Network → (ℕ → ℕ) → ℕ → List ℕ → ℕ → ℕ
+liveBefore N group live goals i = passes N group live (take i goals)
+
+abbrev pub sumBefore : Network → (ℕ → ℕ) → ℕ → List ℕ → ℕ → ℕ
+sumBefore N group live goals i = total N group (liveBefore N group live goals i) (getD goals i 0)
+
+-- goal i falls short
+abbrev pub Short : Network → (ℕ → ℕ) → ℕ → List ℕ → ℕ → Type 0
+Short N group live goals i = sumBefore N group live goals i < count (getD goals i 0)
+
+-- a place at which a goal falls short, or the length of the list; and no goal before it falls short
+abbrev pub FirstShort : Network → (ℕ → ℕ) → ℕ → List ℕ → ℕ → Type 0
+FirstShort N group live goals place =
+    (((place < length goals) × Short N group live goals place) ⊎ (place ≡ length goals)) × ((j : ℕ) → j < place → Short N group live goals j → ⊥)
+
+-- ---- the choice
 
 -- every goal lies within the order
 abbrev pub GoalsWithin : ℕ → List ℕ → Type 0

@@ -9,9 +9,10 @@ ghost use lib.ListN.{length, getD};
 ghost use Rattle.sets.specs.Ranges.{given, sumTo, listTo};
 ghost use Rattle.sets.specs.Sets.{member, without, count};
 ghost use Rattle.network.specs.Network.{listed};
-ghost use Rattle.filter.specs.Filter.{contribution, pass};
+ghost use Rattle.filter.specs.Filter.{contribution, total, pass};
 
 pub mod goals;
+pub mod passes;
 
 use sets::word;
 
@@ -91,10 +92,17 @@ fn stays(wishes: &[u64; 64], v: usize, live: u64, goal: u64, want: u64, rest: u6
     false
 }
 
-// A pass: the live articles that are supported.
-pub fn pass(wishes: &[u64; 64], groups: &[u8], n: usize, live: u64, goal: u64) -> u64
+// What comes of a pass: the articles that it leaves live, and what all groups contributed to its goal.
+pub struct Passed {
+    pub live: u64,
+    pub sum: u64,
+}
+
+// A pass of the filter.
+pub fn pass(wishes: &[u64; 64], groups: &[u8], n: usize, live: u64, goal: u64) -> Passed
     requires { ⌜ (n ≤ 64) × (n ≤ length (now groups)) × ((u : ℕ) → u < n → getD (now groups) u 0 < n) ⌝ }
-    ensures { λ r. ⌜ r ≡ pass (listed n (now (wishes .entry)) []) (λ u. getD (now (groups .entry)) u 0) live goal ⌝ }
+    ensures { λ r. ⌜ r .live ≡ pass (listed n (now (wishes .entry)) []) (λ u. getD (now (groups .entry)) u 0) live goal ⌝ }
+    ensures { λ r. ⌜ r .sum ≡ total (listed n (now (wishes .entry)) []) (λ u. getD (now (groups .entry)) u 0) live goal ⌝ }
 {
     let best = contributions(wishes, groups, n, live, goal);
     let all = sum(&best);
@@ -104,9 +112,12 @@ pub fn pass(wishes: &[u64; 64], groups: &[u8], n: usize, live: u64, goal: u64) -
     while v < n {
         let j = groups[v] as usize;
         let rest = all - best[j];
-        let passed = stays(wishes, v, live, goal, want, rest);
-        kept = word::more_if(kept, v, passed);
+        let staying = stays(wishes, v, live, goal, want, rest);
+        kept = word::more_if(kept, v, staying);
         v += 1;
     }
-    kept
+    Passed {
+        live: kept,
+        sum: all,
+    }
 }

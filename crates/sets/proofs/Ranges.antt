@@ -3,8 +3,8 @@ use mathlib.Core.Path.{_≡_, refl, sym, ap, ap₂, _∙_, subst}
 use mathlib.Core.Logic.{_⊎_, inl, inr, _≢_}
 use mathlib.Core.Bool.{Bool, true, false, not, _&&_, _||_, true≢false, false≢true}
 use mathlib.Core.List.{List, [], _∷_, _++_, map, map-append}
-use Prim.Native.Nat.{ℕ, zero, suc, _+_, _-_, _≤_, _<_, zero-le, min, max}
-use native.Mathlib.Nat.{le-refl, le-trans, le-of-eq, eq-or-lt-of-le, le-max-left, le-max-right}
+use Prim.Native.Nat.{ℕ, zero, suc, _+_, _-_, _*_, _≤_, _<_, zero-le, min, max}
+use native.Mathlib.Nat.{le-refl, le-trans, le-of-eq, eq-or-lt-of-le, le-max-left, le-max-right, suc-mul}
 use native.Mathlib.Numerals.{add-one}
 use native.Mathlib.Omega.{arith}
 use lib.Dec.{leb, eqb}
@@ -242,6 +242,12 @@ sum-at (suc k) f i h = go (sum-at k f i) (below-cases h)
     go : (i < k → f i ≤ sumTo k f) → (i ≡ k) ⊎ (i < k) → f i ≤ sumTo k f + f k
     go r (inl e) = rw e (omega arith)
     go r (inr l) = omega (arith, r l)
+
+-- the sum of n numbers that are at most b
+pub sum-most : (n : ℕ) (f : ℕ → ℕ) (b : ℕ) → ((i : ℕ) → i < n → f i ≤ b) → sumTo n f ≤ n * b
+unfolding sumTo
+sum-most zero f b h = zero-le
+sum-most (suc k) f b h = omega (arith, sum-most k f b (λ i l. h i (omega arith)), h k (le-refl (suc k)), suc-mul k b)
 
 -- the order of two sums may be changed
 pub sum-swap : (n m : ℕ) (f : ℕ → ℕ → ℕ) → sumTo n (λ i. sumTo m (λ j. f i j)) ≡ sumTo m (λ j. sumTo n (λ i. f i j))

@@ -69,7 +69,7 @@ returns-4 c =
     let a = c .before .before .before .before .before .before .before .before .before .before .before .before .before .before .args in
     let r = c .before .before .before .before .before .before .before .before .before .before .before .read-choice in
     let R = choice-read (now (a .file)) (r .result) (r .ensures .0) (r .ensures .1) (c .before .before .before .before .before .before .before .before .before .enum-told .given .1) in
-    pass-made (now (a .file)) (now (a .groups)) (a .live .bits) (a .goal) (r .result) R (c .before .before .before .before .before .before .before .before .groups .ensures) (c .before .before .before .before .before .before .enum-told2 .given .1) (c .before .before .before .before .before .live-and-goal .ensures) (c .before .before .before .enum-told3 .given .1) (c .pass .ensures) (omega arith) (omega arith) (omega arith)
+    pass-made (now (a .file)) (now (a .groups)) (a .live .bits) (a .goal) (r .result) R (c .before .before .before .before .before .before .before .before .groups .ensures) (c .before .before .before .before .before .before .enum-told2 .given .1) (c .before .before .before .before .before .live-and-goal .ensures) (c .before .before .before .enum-told3 .given .1) (c .pass .ensures .0) (c .pass .ensures .1) (omega arith) (omega arith) (omega arith) (omega arith)
 
 pub pass-spec : {M : Type 1} → statement M
 pass-spec =

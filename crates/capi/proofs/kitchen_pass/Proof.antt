@@ -3,7 +3,7 @@ use borrow.Author.Needs.{needs}
 use mathlib.Core.Path.{refl, sym, ap, _∙_}
 use native.Mathlib.Omega.{arith}
 use Rattle.calls.specs.Pass.{passTold}
-use Rattle.capi.specs.Returned.{alone}
+use Rattle.capi.specs.Returned.{passedWords}
 use Rattle.capi.proofs.ReturnedLaws.{first-word, second-word, value-handed, refusal-handed}
 use Rattle.capi.proofs.kitchen_pass.Statement.{statement}
 use Rattle.capi.proofs.kitchen_pass.Tie as tie
@@ -24,10 +24,10 @@ refused-requires : tie.Need-refused-requires
 refused-requires c κs = search needs
 
 returns : tie.Need-returns
-returns c = value-handed alone (sym (c .before .before .before .before .before .pass .ensures) ∙ ap passTold (c .before .before .before .answer .given .1)) refl (c .answered .ensures .1) (omega (arith, c .answered .ensures .0)) (omega (arith, first-word (c .answered .ensures .1))) (omega (arith, second-word (c .answered .ensures .1)))
+returns c = value-handed passedWords (sym (c .before .before .before .before .before .pass .ensures) ∙ ap passTold (c .before .before .before .answer .given .1)) refl (c .answered .ensures .1) (omega (arith, c .answered .ensures .0)) (omega (arith, first-word (c .answered .ensures .1))) (omega (arith, second-word (c .answered .ensures .1)))
 
 returns-2 : tie.Need-returns-2
-returns-2 c = refusal-handed alone (sym (c .before .before .before .before .before .pass .ensures) ∙ ap passTold (c .before .before .before .answer2 .given .1)) (c .refused .ensures .1) (omega (arith, c .refused .ensures .0)) (omega (arith, first-word (c .refused .ensures .1))) (omega (arith, second-word (c .refused .ensures .1)))
+returns-2 c = refusal-handed passedWords (sym (c .before .before .before .before .before .pass .ensures) ∙ ap passTold (c .before .before .before .answer2 .given .1)) (c .refused .ensures .1) (omega (arith, c .refused .ensures .0)) (omega (arith, first-word (c .refused .ensures .1))) (omega (arith, second-word (c .refused .ensures .1)))
 
 pub kitchen-pass-spec : {M : Type 1} → statement M
 kitchen-pass-spec =

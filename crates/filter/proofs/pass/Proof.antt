@@ -3,14 +3,14 @@
 use borrow.Author.Needs.{needs}
 use mathlib.Core.Path.{_≡_, refl}
 use mathlib.Core.List.{[]}
-use Prim.Native.Nat.{_-_, _^_, _≤_, _<_}
+use Prim.Native.Nat.{ℕ, _-_, _^_, _≤_, _<_}
 use native.Mathlib.Omega.{arith}
 use lib.ListN.{getD}
 use Rattle.sets.specs.Ranges.{sumTo}
 use Rattle.sets.specs.Sets.{setOf}
 use Rattle.network.specs.Network.{listed}
 use Rattle.filter.specs.Filter.{others}
-use Rattle.filter.proofs.PassLaws.{best-small, others-left, keeps, pass-turn, pass-end}
+use Rattle.filter.proofs.PassLaws.{best-small, sum-total, others-left, keeps, pass-turn, pass-end}
 use Rattle.filter.proofs.pass.Statement.{statement}
 use Rattle.filter.proofs.pass.Tie as tie
 
@@ -84,9 +84,16 @@ loop-again c =
 
 returns : tie.Need-returns Inv-loop μ-loop
 returns c =
-    let a = c .before .before .before .before .before .before .before .args in
+    let s = c .before .before .before .before .before .before .before in
+    let a = s .args in
     let l = c .before .loop in
-    pass-end (listed (a .n) (a .wishes .now) []) (λ i. getD (a .groups .now) i 0) (a .live) (a .goal) (l .kept) (l .v) (l .inv .1) (omega (arith, l .inv .0, c .loop-test .left))
+    let m = c .before .before .before .before .before .contributions in
+    let all = c .before .before .before .sum in
+    let N = listed (a .n) (a .wishes .now) [] in
+    let group : ℕ → ℕ = λ i. getD (a .groups .now) i 0 in (
+      pass-end N group (a .live) (a .goal) (l .kept) (l .v) (l .inv .1) (omega (arith, l .inv .0, c .loop-test .left)),
+      omega (arith, sum-total N group (a .live) (a .goal) (m .result) (all .result) (s .pre .2) (s .pre .0) (m .ensures) (all .ensures .0)),
+    )
 
 pub pass-spec : {M : Type 1} → statement M
 pass-spec =
