@@ -139,17 +139,18 @@ uint32_t kitchen_version(void);
  * out: 0, 0 */
 uint32_t kitchen_partition(const uint8_t *file, size_t file_len, uint8_t *groups, size_t groups_len, uint64_t out[2]);
 
-/* A pass of the filter, by the groups lent, for one projection goal. If the sum is below the count of the goal's wishes,
- * every selection has an article that is not live here. It is never above 4,096.
+/* A pass of the filter, by the groups lent, for one projection goal. Live articles, no two of which clash, never carry
+ * more wishes of the goal together than the sum says. If the sum is below the count of the goal's wishes, every
+ * selection has an article that is not live here. The sum is never above 4,096.
  * out: what it leaves live, the sum of the contributions by which it was made */
 uint32_t kitchen_pass(const uint8_t *file, size_t file_len, const uint8_t *groups, size_t groups_len, uint64_t live,
                       uint64_t goal, uint64_t out[2]);
 
 /* The smallest selection at or above the floor, after a pass for each goal in turn. Smallest is its number, the sum of
  * 2^i over its articles i, and not the count of them: a selection without the last articles of the file goes before one
- * with them, so what should be preferred comes first. 14 is "no selection"; out[0] is then the index of the
- * first goal that falls short, which is one whose pass has a sum below the count of its wishes, and goals_len if none
- * does. So if out[0] < goals_len there is no selection at all, below the floor neither; without goals nothing is said.
+ * with them, so what should be preferred comes first. 14 is "no selection"; out[0] is then the index of the first goal
+ * that falls short, which is one whose pass has a sum below the count of its wishes, and goals_len if none does. So if
+ * out[0] < goals_len, there is no selection at all, not even below the floor. If out[0] == goals_len, no sum tells why.
  * out: the selection, the set aside */
 uint32_t kitchen_choose(const uint8_t *file, size_t file_len, const uint8_t *groups, size_t groups_len,
                         const uint64_t *goals, size_t goals_len, uint64_t floor, uint64_t out[2]);

@@ -237,8 +237,8 @@ rowsC =
     ∷ is interfaceNumber 4
     ∷ []
 
--- what the program prints, in bytes: "chosen 1 2" and "aside 0" of B; "rounds 2", "1: 0" and "2: 1 2" of F; "refused 2 at 45"; "refused 14 at 0" of articles 0 and
--- 1 of A alone, and "refused 14 at 1" of two articles that clash and are in different groups
+-- what the program prints, in bytes: "chosen 1 2" and "aside 0" of B; "rounds 2", "1: 0" and "2: 1 2" of F; "refused 2 at 45"; "refused 14 at 0" of
+-- articles 0 and 1 of A alone, and "refused 14 at 1" of two articles that clash and are in different groups
 abbrev rowsText : List Row
 rowsText =
     is (textOf (outcomeOf fileB blankWords) blankWords) (99 ∷ 104 ∷ 111 ∷ 115 ∷ 101 ∷ 110 ∷ 32 ∷ 49 ∷ 32 ∷ 50 ∷ 10 ∷ 97 ∷ 115 ∷ 105 ∷ 100 ∷ 101 ∷ 32 ∷ 48 ∷ 10 ∷ [])
