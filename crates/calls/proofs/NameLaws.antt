@@ -9,6 +9,7 @@ use lib.Dec.{eqb}
 use lib.ListN.{length, getD, take, drop}
 use borrow.Author.Tests.{eqb-true}
 use Rattle.sets.specs.Ranges.{num}
+use Rattle.sets.specs.Lists.{sameList}
 use Rattle.reading.specs.declared.Reason.the-variants.{NameNotFound}
 use Rattle.reading.specs.declared.Refusal.{Refusal}
 use Rattle.reading.specs.declared.Spot.{Spot}
@@ -19,12 +20,14 @@ use Rattle.jobfile.specs.declared.Verdict.the-variants as Verdict
 use Rattle.jobfile.specs.declared.ReadChoice.{ReadChoice}
 use Rattle.jobfile.specs.declared.ReadNames.{ReadNames}
 use Rattle.jobfile.specs.Job.{Job, column, size, order, wishes, clashes}
-use Rattle.jobfile.specs.Meaning.{choiceRead, namesRead, spotOf, spotIn, Few, ChoiceBounds, NamesBounds}
+use Rattle.jobfile.specs.Valid.{Bytes}
+use Rattle.jobfile.specs.Meaning.{choiceRead, namesRead, spotOf, spotIn, Few, NamesWithin, ChoiceBounds, NamesBounds}
 use Rattle.jobfile.specs.Read.{read, readJob, choices, either}
 use Rattle.jobfile.proofs.NamingLaws.{mapGot, bytesAt, recordBy, jobBy, column-by, names-same, read-same}
 use Rattle.jobfile.proofs.ReadLaws.{names-spot}
+use Rattle.jobfile.proofs.ShortLaws.{lens-short}
 use Rattle.jobfile.proofs.StatedLaws.{column-length}
-use Rattle.names.specs.Names.{sameList, lowestNamed}
+use Rattle.names.specs.Names.{lowestNamed}
 use Rattle.names.specs.Likeness.{alike}
 use Rattle.names.proofs.SameLaws.{padded-same, search-cong}
 use Rattle.arguments.specs.Answers.{Answer, value, onJob, foundOr, Said, answered, said, refusalSaid}
@@ -44,6 +47,11 @@ spot-asked g e same = e ∙ ap (spotIn g) same
 module _ (f name : List ℕ) where
   pub find-down : {v : Verdict} {x : Refusal} → v ≡ namesRead (read spots either f) .verdict → v ≡ Verdict.Refused x → refusalSaid x ≡ said (findOf f name)
   find-down p q = ap said (job-down (λ job. findIn job name) (file-down f either (p ∙ names-verdict (read spots either f)) q))
+
+  -- the names that were read are short
+  pub find-short : Bytes f → {r : ReadNames} → r ≡ namesRead (read spots either f) → NamesBounds f r → (i : ℕ) → getD (r .lens) i 0 ≤ 32
+  find-short bytes e (few, within, counted) i =
+      rw e (lens-short either f bytes counted (subst (λ r. NamesWithin (length f) (r .starts) (r .lens)) e within) i)
 
   -- the search was over n names, which are those of the job by their spots in the file
   pub find-made : {s : Said ℕ} {o : Option ℕ} {n : ℕ} (r : ReadNames) → r ≡ namesRead (read spots either f) → NamesBounds f r → r .verdict ≡ Verdict.Accepted

@@ -1,10 +1,10 @@
 -- What a choice file was read as is the choice that the writer writes of it; its names are within the writer's bounds. Assumes nothing.
 use mathlib.Core.Path.{_≡_, refl, sym, ap, ap₂, _∙_, subst}
 use mathlib.Core.List.{List, [], _∷_, map}
-use Prim.Native.Nat.{ℕ, zero, suc, _+_, _≤_, _<_}
+use Prim.Native.Nat.{ℕ, zero, suc, _≤_, _<_}
 use native.Mathlib.Omega.{arith}
-use lib.ListN.{length, getD, take, drop, length-map, length-drop}
-use lib.Seq.{ext-getD, length-take-le}
+use lib.ListN.{length, getD, take, drop, length-map}
+use lib.Seq.{ext-getD}
 use borrow.Author.Tests.{ne-eqb}
 use Rattle.sets.specs.Ranges.{listTo}
 use Rattle.sets.proofs.Ranges.{list-length, list-at}
@@ -17,10 +17,11 @@ use Rattle.jobfile.specs.Layout.{choice}
 use Rattle.jobfile.specs.Job.{Record, noRecord, Job, column, size}
 use Rattle.jobfile.specs.Read.{read, readJob, choices}
 use Rattle.jobfile.specs.Valid.{Bytes, AllFrom, ValidRecord}
-use Rattle.jobfile.specs.Meaning.{padded, startsOf, lensOf, choiceRead, Few, ChoiceBounds}
+use Rattle.jobfile.specs.Meaning.{padded, startsOf, lensOf, choiceRead, namesRead, Few, NamesWithin, ChoiceBounds}
 use Rattle.jobfile.proofs.FileLaws.{Body}
 use Rattle.jobfile.proofs.NamingLaws.{recordBy, mapGot, jobBy, read-same}
 use Rattle.jobfile.proofs.ReadLaws.{padded-at}
+use Rattle.jobfile.proofs.ShortLaws.{lens-short}
 use Rattle.jobfile.proofs.StatedLaws.{column-length, choice-counts, choice-head, choice-fields, choice-after, choice-stated}
 use Rattle.arguments.proofs.FileLaws.{as-taken, choice-verdict}
 use Rattle.writing.specs.Meaning.{articleBy, articleIn, choiceIn}
@@ -39,14 +40,6 @@ module _ (f : List ℕ) (w : ℕ) where
   record-at k (r ∷ rs) o zero l =
       ap₂ (λ (before after : List ℕ). record { before = before; name = take (r .name .len) (drop (r .name .start) f); after = after }) (choice-fields w k (r .before) (o .0 .before)) (choice-after w k (r .after) (o .0 .after))
   record-at k (r ∷ rs) o (suc i) l = record-at (suc k) rs (o .1) i (omega arith)
-
-  -- a name within the file is as long as its spot says, so it is not too long
-  short-at : (k : ℕ) (rs : List (Record Spot)) → AllFrom (ValidRecord choice w) k (map (recordBy f) rs) → (i : ℕ) → getD (startsOf rs) i 0 + getD (lensOf rs) i 0 ≤ length f → getD (lensOf rs) i 0 ≤ 32
-  unfolding choice
-  short-at k [] o i within = omega arith
-  short-at k (r ∷ rs) o zero within =
-      omega (arith, o .0 .short, length-take-le (r .name .len) (drop (r .name .start) f) (rw (length-drop (r .name .start) f) (omega arith)))
-  short-at k (r ∷ rs) o (suc i) within = short-at (suc k) rs (o .1) i within
 
 -- ---- a file that was read
 
@@ -78,7 +71,7 @@ module _ (f : List ℕ) (bytes : Bytes f) where
           heads = choice-head (getD (job .counts) 1 0) (job .heads) (stated .heads) k;
           records = records number name above k;
         };
-    short = λ i. rw (at-spot .1 i) (short-at f (getD (job .counts) 1 0) 0 (job .records) (stated .records) i (omega (arith, bounds .2 i, at-spot .0 i, at-spot .1 i)));
+    short = subst (λ g. (i : ℕ) → getD (namesRead g .lens) i 0 ≤ 32) e (lens-short choices f bytes (bounds .3) (subst (λ g. NamesWithin (length f) (namesRead g .starts) (namesRead g .lens)) (sym e) (bounds .2)));
     wishes-length = list-length 64 (λ i. getD (column 0 (job .records)) i 0);
     clashes-length = list-length 64 (λ i. getD (column 1 (job .records)) i 0);
   }

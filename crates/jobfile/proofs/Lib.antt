@@ -9,3 +9,4 @@ pub mod StepLaws
 pub mod ColumnLaws
 pub mod ReadLaws
 pub mod NamingLaws
+pub mod ShortLaws

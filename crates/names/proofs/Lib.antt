@@ -1,2 +1,3 @@
--- The laws that names and likeness rest on.
+-- Laws of names and of arrays that are compared.
+pub mod EqualLaws
 pub mod SameLaws

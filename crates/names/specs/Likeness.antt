@@ -1,8 +1,8 @@
 -- When two jobs are alike (docs/RULES.md, "Names and comparison").
 use mathlib.Core.Bool.{Bool, _&&_}
 use lib.Dec.{eqb}
+use Rattle.sets.specs.Lists.{sameList}
 use Rattle.jobfile.specs.Job.{Job, size, wishCount, order, wishes, clashes}
-use Rattle.names.specs.Names.{sameList}
 
 -- two choices are alike if their counts, their orders and all their wishes and clashes agree; names play no part
 abbrev pub alike : {N : Type 0} → Job N → Job N → Bool

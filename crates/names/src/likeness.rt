@@ -2,7 +2,7 @@
 ghost use mathlib.Core.Path.{_≡_};
 ghost use mathlib.Core.Bool.{_&&_};
 ghost use lib.Dec.{eqb};
-ghost use Rattle.names.specs.Names.{sameList};
+ghost use Rattle.sets.specs.Lists.{sameList};
 use jobfile::ReadChoice;
 
 // The elements of an array.

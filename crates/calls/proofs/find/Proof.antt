@@ -3,7 +3,8 @@ use borrow.Author.Needs.{needs}
 use mathlib.Core.Path.{ap}
 use native.Mathlib.Omega.{arith}
 use denote.Ref.{now}
-use Rattle.calls.proofs.NameLaws.{find-down, find-made}
+use Rattle.jobfile.specs.Valid.{Bytes}
+use Rattle.calls.proofs.NameLaws.{find-down, find-short, find-made}
 use Rattle.calls.proofs.find.Statement.{statement}
 use Rattle.calls.proofs.find.Tie as tie
 
@@ -22,7 +23,11 @@ enum-told : tie.Need-enum-told
 enum-told c = search needs
 
 search-requires : tie.Need-search-requires
-search-requires c κs = search needs
+search-requires c κs =
+    let f = now (c .before .before .before .before .before .before .before .args .file) in
+    let r = c .before .before .before .before .read-names in
+    let bytes : Bytes f = λ k. omega (arith, c .before .before .before .before .before .before .shared-slice-known .given k) in
+    (r .ensures .1 .0, r .ensures .1 .1, find-short f (now (c .before .before .before .before .before .before .before .args .name)) bytes (r .ensures .0) (r .ensures .1))
 
 answer-of-requires : tie.Need-answer-of-requires
 answer-of-requires c κs = search needs

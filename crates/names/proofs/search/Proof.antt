@@ -1,4 +1,4 @@
--- `names::search` meets its contract. The invariant: the numbers before those that are left do not have the name.
+-- `names::search` meets its contract. The invariant: the numbers before those that are left do not have the name, whose form was made.
 use borrow.Author.Needs.{needs}
 use mathlib.Core.Path.{_≡_, sym, ap, _∙_}
 use mathlib.Core.Bool.{Bool}
@@ -8,8 +8,10 @@ use native.Mathlib.Omega.{arith}
 use lib.ListN.{length, getD, take, drop}
 use Rattle.sets.specs.First.{firstFrom}
 use Rattle.sets.proofs.First.{first-here, first-nowhere, left-start, left-next}
+use Rattle.unicode.specs.Forms.{form}
+use Rattle.unicode.specs.Meaning.{told, Sound, short}
 use Rattle.names.specs.Names.{sameName}
-use Rattle.names.proofs.SameLaws.{search-some, search-none}
+use Rattle.names.proofs.SameLaws.{search-some, search-none, part-short}
 use Rattle.names.proofs.search.Statement.{statement}
 use Rattle.names.proofs.search.Tie as tie
 
@@ -26,18 +28,23 @@ seen file starts lens name i e =
     ap (λ (m : ℕ). sameName (take m (drop (getD starts i 0) file)) name) k ∙ sym e
 
 abbrev Inv-loop : tie.InvT-loop
-Inv-loop file n name starts lens left₀ left = (left ≤ n) × (0 < length name) × (firstFrom (hasName file starts lens name) left (n - left) ≡ firstFrom (hasName file starts lens name) n 0)
+Inv-loop file n name starts lens wanted left₀ left = (left ≤ n) × (0 < length name) × (firstFrom (hasName file starts lens name) left (n - left) ≡ firstFrom (hasName file starts lens name) n 0) × Sound wanted × (told wanted ≡ short 32 (form name))
 
 abbrev μ-loop : tie.MeasureT-loop
-μ-loop file n name starts lens left₀ left = left
+μ-loop file n name starts lens wanted left₀ left = left
 
 returns : tie.Need-returns Inv-loop μ-loop
 returns c =
     let a = c .before .before .before .args in
     search-none (a .name .now) (a .n) (nameOf (a .file .now) (a .t2) (a .t3)) (omega (arith, c .if1 .taken))
 
+normalized-requires : tie.Need-normalized-requires Inv-loop μ-loop
+normalized-requires c κs = search needs
+
 loop-holds : tie.Need-loop-holds Inv-loop μ-loop
-loop-holds c = (omega arith, omega (arith, c .if1 .left), left-start (hasName (c .before .before .before .args .file .now) (c .before .before .before .args .t2) (c .before .before .before .args .t3) (c .before .before .before .args .name .now)) (c .before .before .before .args .n))
+loop-holds c =
+    let a = c .before .before .before .before .args in
+    (omega arith, omega (arith, c .before .if1 .left), left-start (hasName (a .file .now) (a .t2) (a .t3) (a .name .now)) (a .n), c .normalized .ensures .0, c .normalized .ensures .1)
 
 sub-i : tie.Need-sub-i Inv-loop μ-loop
 sub-i c = search needs
@@ -56,29 +63,33 @@ array-read-e c = search needs
 
 add-e : tie.Need-add-e Inv-loop μ-loop
 add-e c =
-    let a = c .before .before .before .before .before .args in
-    let room : (i : ℕ) → getD (a .t2) i 0 + getD (a .t3) i 0 < 2 ^ 64 = λ i. let h = c .before .before .before .before .before .pre .1 i in search needs in
+    let a = c .before .before .before .before .before .before .args in
+    let room : (i : ℕ) → getD (a .t2) i 0 + getD (a .t3) i 0 < 2 ^ 64 = λ i. let h = c .before .before .before .before .before .before .pre .1 i in search needs in
     search (needs, room)
 
-sub-same-name : tie.Need-sub-same-name Inv-loop μ-loop
-sub-same-name c = search needs
+sub-equal : tie.Need-sub-equal Inv-loop μ-loop
+sub-equal c = search needs
 
-part-same-name-start : tie.Need-part-same-name-start Inv-loop μ-loop
-part-same-name-start c = search needs
+part-equal-start : tie.Need-part-equal-start Inv-loop μ-loop
+part-equal-start c = search needs
 
-part-same-name-end : tie.Need-part-same-name-end Inv-loop μ-loop
-part-same-name-end c = search (needs, c .before .before .before .before .before .pre .1)
+part-equal-end : tie.Need-part-equal-end Inv-loop μ-loop
+part-equal-end c = search (needs, c .before .before .before .before .before .before .pre .1)
 
-same-name-requires : tie.Need-same-name-requires Inv-loop μ-loop
-same-name-requires c κs = search needs
+equal-requires : tie.Need-equal-requires Inv-loop μ-loop
+equal-requires c κs =
+    let b = c .before .before .before .before .before .before .before in
+    let l = c .before .before .loop in
+    let i = b .args .n - l .left in
+    (part-short (b .args .file .now) (getD (b .args .t2) i 0) (getD (b .args .t3) i 0) 32 (b .pre .2 i), l .inv .3, l .inv .4)
 
 returns-2 : tie.Need-returns-2 Inv-loop μ-loop
 returns-2 c =
-    let a = c .before .before .before .before .before .before .before .before .args in
+    let a = c .before .before .before .before .before .before .before .before .before .args in
     let l = c .before .before .before .before .loop in
     let i = a .n - l .left in
     let test = hasName (a .file .now) (a .t2) (a .t3) (a .name .now) in
-    first-here test (l .left) i (c .before .before .before .loop-test .taken) (seen (a .file .now) (a .t2) (a .t3) (a .name .now) i (c .before .same-name .ensures) ∙ c .if2 .taken)
+    first-here test (l .left) i (c .before .before .before .loop-test .taken) (seen (a .file .now) (a .t2) (a .t3) (a .name .now) i (c .before .equal .ensures) ∙ c .if2 .taken)
     ∙ l .inv .2
     ∙ search-some (a .name .now) (a .n) (nameOf (a .file .now) (a .t2) (a .t3)) (l .inv .1)
 
@@ -90,15 +101,15 @@ loop-less c = search needs
 
 loop-again : tie.Need-loop-again Inv-loop μ-loop
 loop-again c =
-    let a = c .before .before .before .before .before .before .before .before .args in
+    let a = c .before .before .before .before .before .before .before .before .before .args in
     let l = c .before .before .before .before .loop in
     let i = a .n - l .left in
     let test = hasName (a .file .now) (a .t2) (a .t3) (a .name .now) in
-    (omega arith, l .inv .1, left-next test (a .n) (l .left) (c .before .before .before .loop-test .taken) (l .inv .0) (seen (a .file .now) (a .t2) (a .t3) (a .name .now) i (c .before .same-name .ensures) ∙ c .if2 .left) ∙ l .inv .2)
+    (omega arith, l .inv .1, left-next test (a .n) (l .left) (c .before .before .before .loop-test .taken) (l .inv .0) (seen (a .file .now) (a .t2) (a .t3) (a .name .now) i (c .before .equal .ensures) ∙ c .if2 .left) ∙ l .inv .2, l .inv .3, l .inv .4)
 
 returns-3 : tie.Need-returns-3 Inv-loop μ-loop
 returns-3 c =
-    let a = c .before .before .before .before .before .args in
+    let a = c .before .before .before .before .before .before .args in
     let l = c .before .loop in
     let test = hasName (a .file .now) (a .t2) (a .t3) (a .name .now) in
     first-nowhere test (l .left) (a .n - l .left) (omega (arith, c .loop-test .left))
@@ -112,6 +123,7 @@ search-spec =
     Inv-loop
     μ-loop
     returns
+    normalized-requires
     loop-holds
     sub-i
     mul-a
@@ -119,10 +131,10 @@ search-spec =
     mul-e
     array-read-e
     add-e
-    sub-same-name
-    part-same-name-start
-    part-same-name-end
-    same-name-requires
+    sub-equal
+    part-equal-start
+    part-equal-end
+    equal-requires
     returns-2
     sub-left
     loop-less

@@ -4,7 +4,7 @@ use mathlib.Core.Path.{_≡_, sym, _∙_}
 use mathlib.Core.Bool.{true, false}
 use lib.Dec.{eqb}
 use borrow.Author.Tests.{eq-eqb, ne-eqb, not-true, not-false}
-use Rattle.names.specs.Names.{sameList}
+use Rattle.sets.specs.Lists.{sameList}
 use Rattle.names.proofs.likeness.alike.Statement.{statement}
 use Rattle.names.proofs.likeness.alike.Tie as tie
 

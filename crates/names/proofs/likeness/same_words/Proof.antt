@@ -5,7 +5,7 @@ use Prim.Native.Nat.{ℕ, _-_, _≤_, _<_}
 use native.Mathlib.Omega.{arith}
 use lib.ListN.{length, getD}
 use Rattle.sets.proofs.Ranges.{one-more}
-use Rattle.names.proofs.SameLaws.{all-same, one-differs}
+use Rattle.sets.proofs.Lists.{all-same, one-differs}
 use Rattle.names.proofs.likeness.same_words.Statement.{statement}
 use Rattle.names.proofs.likeness.same_words.Tie as tie
 

@@ -1,13 +1,13 @@
--- `names::same_name` meets its contract. The invariant: the bytes before i are the same.
+-- `names::same_bytes` meets its contract. The invariant: the bytes before i are the same.
 use borrow.Author.Needs.{needs}
 use mathlib.Core.Path.{_≡_}
 use Prim.Native.Nat.{ℕ, _-_, _≤_, _<_}
 use native.Mathlib.Omega.{arith}
 use lib.ListN.{length, getD}
 use Rattle.sets.proofs.Ranges.{one-more}
-use Rattle.names.proofs.SameLaws.{all-same, one-differs, lengths-differ}
-use Rattle.names.proofs.same_name.Statement.{statement}
-use Rattle.names.proofs.same_name.Tie as tie
+use Rattle.sets.proofs.Lists.{all-same, one-differs, lengths-differ}
+use Rattle.names.proofs.same_bytes.Statement.{statement}
+use Rattle.names.proofs.same_bytes.Tie as tie
 
 abbrev Inv-loop : tie.InvT-loop
 Inv-loop a b n i₀ i = (i ≤ n) × (length a ≡ n) × (length b ≡ n) × ((j : ℕ) → j < i → getD a j 0 ≡ getD b j 0)
@@ -48,8 +48,8 @@ returns-3 c =
     let l = c .before .loop in
     all-same (a .a .now) (a .b .now) (omega (arith, l .inv .1, l .inv .2)) (λ j h. l .inv .3 j (omega (arith, l .inv .1, c .loop-test .left)))
 
-pub same-name-spec : {M : Type 1} → statement M
-same-name-spec =
+pub same-bytes-spec : {M : Type 1} → statement M
+same-bytes-spec =
     tie.close
     (tie.spec
     Inv-loop
