@@ -6,7 +6,7 @@
  *     tools/library
  *
  * which makes target/lib/libkitchen.a, an archive to link, and target/lib/libkitchen.so, a shared library for languages
- * that load one; its soname is libkitchen.so.4. `make install` puts both and this header where your system has such
+ * that load one; its soname is libkitchen.so.5. `make install` puts both and this header where your system has such
  * things, and in the folder that `make dist` packs both are in lib/.
  *
  * A program in C that chooses, from a job file on standard input, is built by
@@ -85,7 +85,7 @@
 
 /* Goes up whenever a declaration or a number below changes, or the meaning of a word of `out`. kitchen_version() tells
  * the number of the library that was built. */
-#define KITCHEN_VERSION 4
+#define KITCHEN_VERSION 5
 
 #include <stddef.h>
 #include <stdint.h>

@@ -15,8 +15,10 @@ use lib.Pow.{pow-pos, pow-mono}
 use borrow.Author.Tests.{leb-true, le-leb, ltb-true, lt-ltb, eqb-true, eqb-false, eq-eqb, not-true}
 use Rattle.sets.specs.Sets.{_∈_, without, part, full}
 use Rattle.sets.specs.Ranges.{anyTo}
+use Rattle.sets.specs.Lists.{sameList}
 use Rattle.sets.specs.First.{firstFrom, LeastFrom, Smallest}
 use Rattle.sets.proofs.Ranges.{both-true, true-both, either-true, any-at, at-any}
+use Rattle.sets.proofs.Lists.{list-same, agree}
 use Rattle.sets.proofs.Bits.{bit-shift, in-without, top-in, yes-part, part-in}
 use Rattle.sets.proofs.Lowest.{some-member}
 use Rattle.sets.proofs.First.{first-none, none-first, first-smallest, smallest-first}
@@ -26,9 +28,9 @@ use Rattle.reading.specs.Reasons.{numberOf, answers}
 use Rattle.reading.specs.Got.{Got, got, refused}
 use Rattle.jobfile.specs.Job.{Record, Job, namesOf, size, wishCount, order, wishes, clashes, horizon}
 use Rattle.jobfile.specs.Read.{readJob}
-use Rattle.names.specs.Names.{sameList, sameName, lowestNamed}
+use Rattle.names.specs.Names.{Equal, sameName, lowestNamed}
 use Rattle.names.specs.Likeness.{alike}
-use Rattle.names.proofs.SameLaws.{list-same, agree}
+use Rattle.names.proofs.EqualLaws.{same-equal, equal-same}
 use Rattle.network.specs.Network.{Network, networkOf, clash}
 use Rattle.network.specs.Groups.{Partition, misplaced, firstMisplaced}
 use Rattle.filter.specs.Filter.{outside, badGoal, firstBad, setAside, firstShort}
@@ -395,8 +397,8 @@ lowest-exactly (b ∷ bs) job i = (to, back)
     some-byte : (b ∷ bs) ≡ [] → ⊥
     some-byte e = let z : _≡_ {A = ℕ} 0 1 = cc in omega arith
 
-    first : Exactly (firstFrom (λ j. sameName (names j) (b ∷ bs)) (size job) 0 ≡ some i) ((i < size job) × (names i ≡ b ∷ bs) × ((j : ℕ) → j < i → names j ≡ b ∷ bs → ⊥))
-    first = first-exactly (λ j. sameName (names j) (b ∷ bs)) (λ j. names j ≡ b ∷ bs) (size job) (λ j. (list-same (names j) (b ∷ bs), λ e. sym (agree (names j) (b ∷ bs) e))) i
+    first : Exactly (firstFrom (λ j. sameName (names j) (b ∷ bs)) (size job) 0 ≡ some i) ((i < size job) × Equal (names i) (b ∷ bs) × ((j : ℕ) → j < i → Equal (names j) (b ∷ bs) → ⊥))
+    first = first-exactly (λ j. sameName (names j) (b ∷ bs)) (λ j. Equal (names j) (b ∷ bs)) (size job) (λ j. (same-equal (names j) (b ∷ bs), equal-same (names j) (b ∷ bs))) i
 
     to : firstFrom (λ j. sameName (names j) (b ∷ bs)) (size job) 0 ≡ some i → Has job (b ∷ bs) i × ((j : ℕ) → j < i → Has job (b ∷ bs) j → ⊥)
     to e = let (l, p, least) = first .0 e in ((some-byte, l, p), λ j k w. least j k (w .2))
@@ -413,7 +415,7 @@ nobody-exactly (b ∷ bs) job = (to, back)
     named i = sameName (getD (namesOf (job .records)) i []) (b ∷ bs)
 
     to : firstFrom named (size job) 0 ≡ none → (i : ℕ) → Has job (b ∷ bs) i → ⊥
-    to e i (s, l, p) = true≢false (agree (getD (namesOf (job .records)) i []) (b ∷ bs) p ∙ first-none named (size job) 0 e i (omega arith) (omega arith))
+    to e i (s, l, p) = true≢false (sym (equal-same (getD (namesOf (job .records)) i []) (b ∷ bs) p) ∙ first-none named (size job) 0 e i (omega arith) (omega arith))
 
     back : ((i : ℕ) → Has job (b ∷ bs) i → ⊥) → firstFrom named (size job) 0 ≡ none
     back h = none-first named (size job) 0 (λ i l u. go i (omega arith) (named i) refl)
@@ -422,7 +424,7 @@ nobody-exactly (b ∷ bs) job = (to, back)
         some-byte e = let z : _≡_ {A = ℕ} 0 1 = cc in omega arith
 
         go : (i : ℕ) → i < size job → (t : Bool) → named i ≡ t → named i ≡ false
-        go i l true e = absurd (h i (some-byte, l, list-same (getD (namesOf (job .records)) i []) (b ∷ bs) e))
+        go i l true e = absurd (h i (some-byte, l, same-equal (getD (namesOf (job .records)) i []) (b ∷ bs) e))
         go i l false e = e
 
 -- ---- comparing

@@ -5,4 +5,5 @@ pub mod SaveLaws
 pub mod Demands
 pub mod Saving
 pub mod Bounds
+pub mod Naming
 pub mod Promises

@@ -12,6 +12,7 @@ use Rattle.reading.specs.Reasons.{numberOf, answers}
 use Rattle.reading.specs.Got.{got, refused}
 use Rattle.jobfile.specs.Job.{Job, namesOf, size, wishCount, order, wishes, clashes, horizon}
 use Rattle.jobfile.specs.Read.{readJob}
+use Rattle.names.specs.Names.{Equal}
 use Rattle.network.specs.Network.{Network, Selection, networkOf, clash}
 use Rattle.filter.specs.Filter.{setAside, firstShort}
 use Rattle.planning.specs.Rounds.{fittingOf, Plan}
@@ -88,9 +89,9 @@ wrongGoals order goals = record {
 
 -- ---- demand 1: what finding and comparing give
 
--- article or step i has this name, which is not empty
+-- article or step i has this name, or one that is equal to it; it is not empty
 abbrev pub Has : Job (List ℕ) → List ℕ → ℕ → Type 0
-Has job name i = (name ≡ [] → ⊥) × (i < size job) × (getD (namesOf (job .records)) i [] ≡ name)
+Has job name i = (name ≡ [] → ⊥) × (i < size job) × Equal (getD (namesOf (job .records)) i []) name
 
 -- n, w, order, wishes and clashes agree
 abbrev pub Alike : Job (List ℕ) → Job (List ℕ) → Type 0

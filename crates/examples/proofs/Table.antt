@@ -1,6 +1,7 @@
 -- The table holds: each row computes to what is stated. Assumes nothing.
 use mathlib.Core.Path.{refl}
 use Rattle.sets.specs.Ranges.{everyTo, anyTo, sumTo, maxTo, listTo}
+use Rattle.sets.specs.Lists.{sameList}
 use Rattle.sets.specs.Sets.{bit, without, part, meets, everyPair, setOf, unionTo, gathered, countIn, count}
 use Rattle.sets.specs.Articles.{taking, givingUp}
 use Rattle.sets.specs.First.{firstFrom}
@@ -9,7 +10,10 @@ use Rattle.reading.specs.Items.{kindAt, valueAt, numberAt, countAt, mapAt, setA
 use Rattle.jobfile.specs.Layout.{choice, fitting, kinds, layoutIn}
 use Rattle.jobfile.specs.Read.{fieldsAt, recordAt, bodyAt, layoutAt, read, readJob}
 use Rattle.jobfile.specs.Write.{bytesOf, fieldBytes, nameBytes, fieldsBytes, partsBytes, mapOf, joined, writeRecord, writeEach, writeAll, writeBody, write}
-use Rattle.names.specs.Names.{sameList}
+use Rattle.unicode.specs.Table as Unicode
+use Rattle.unicode.specs.Canonical.{reorderable}
+use Rattle.unicode.specs.Forms as Forms
+use Rattle.names.specs.Names.{sameName}
 use Rattle.changes.specs.Change.{alter}
 use Rattle.text.specs.Text.{digits, members, roundTexts}
 use Rattle.network.specs.Network.{clash, together}
@@ -21,5 +25,5 @@ use Rattle.planning.specs.Layers.{mutexes, opposed, stands, rivals, standing, r
 use Rattle.examples.specs.Table.{Hold, rows}
 
 pub table : Hold rows
-unfolding everyTo anyTo sumTo maxTo listTo bit without part meets everyPair setOf unionTo gathered countIn count taking givingUp firstFrom eachAt upFrom kindAt valueAt numberAt countAt mapAt setAt fieldAt lengthAt nameAt choice fitting kinds layoutIn fieldsAt recordAt bodyAt layoutAt read readJob bytesOf fieldBytes nameBytes fieldsBytes partsBytes mapOf joined writeRecord writeEach writeAll writeBody write alter clash together misplaced firstMisplaced suits opened joins groupsTo outside badGoal firstBad share contribution total others supported pass passes setAside fallsShort firstShort isCover smallest disturb after isRound leads leadsIn fewest mutexes opposed stands rivals standing roundOver givers excluded givenBy factsOver factLayer sameList digits members roundTexts
-table = (refl, (refl, (refl, (refl, (refl, (refl, (refl, (refl, (refl, (refl, (refl, (refl, (refl, (refl, (refl, (refl, (refl, (refl, (refl, (refl, (refl, (refl, (refl, (refl, (refl, (refl, (refl, (refl, (refl, (refl, (refl, (refl, (refl, (refl, (refl, (refl, (refl, (refl, (refl, (refl, (refl, (refl, (refl, (refl, (refl, (refl, (refl, (refl, (refl, (refl, (refl, (refl, (refl, (refl, (refl, (refl, (refl, (refl, (refl, (refl, (refl, (refl, (refl, (refl, (refl, (refl, (refl, (refl, (refl, (refl, (refl, (refl, (refl, (refl, (refl, (refl, (refl, (refl, (refl, (refl, (refl, (refl, (refl, (refl, (refl, (refl, (refl, (refl, (refl, (refl, (refl, (refl, (refl, (refl, (refl, (refl, (refl, (refl, (refl, (refl, (refl, (refl, (refl, (refl, (refl, (refl, (refl, (refl, (refl, (refl, (refl, (refl, (refl, (refl, tt))))))))))))))))))))))))))))))))))))))))))))))))))))))))))))))))))))))))))))))))))))))))))))))))))))))))))))))))))
+unfolding everyTo anyTo sumTo maxTo listTo bit without part meets everyPair setOf unionTo gathered countIn count taking givingUp firstFrom eachAt upFrom kindAt valueAt numberAt countAt mapAt setAt fieldAt lengthAt nameAt choice fitting kinds layoutIn fieldsAt recordAt bodyAt layoutAt read readJob bytesOf fieldBytes nameBytes fieldsBytes partsBytes mapOf joined writeRecord writeEach writeAll writeBody write alter clash together misplaced firstMisplaced suits opened joins groupsTo outside badGoal firstBad share contribution total others supported pass passes setAside fallsShort firstShort isCover smallest disturb after isRound leads leadsIn fewest mutexes opposed stands rivals standing roundOver givers excluded givenBy factsOver factLayer sameList Unicode.table reorderable Forms.textOf Forms.apart Forms.inserted Forms.ordered sameName digits members roundTexts
+table = (refl, (refl, (refl, (refl, (refl, (refl, (refl, (refl, (refl, (refl, (refl, (refl, (refl, (refl, (refl, (refl, (refl, (refl, (refl, (refl, (refl, (refl, (refl, (refl, (refl, (refl, (refl, (refl, (refl, (refl, (refl, (refl, (refl, (refl, (refl, (refl, (refl, (refl, (refl, (refl, (refl, (refl, (refl, (refl, (refl, (refl, (refl, (refl, (refl, (refl, (refl, (refl, (refl, (refl, (refl, (refl, (refl, (refl, (refl, (refl, (refl, (refl, (refl, (refl, (refl, (refl, (refl, (refl, (refl, (refl, (refl, (refl, (refl, (refl, (refl, (refl, (refl, (refl, (refl, (refl, (refl, (refl, (refl, (refl, (refl, (refl, (refl, (refl, (refl, (refl, (refl, (refl, (refl, (refl, (refl, (refl, (refl, (refl, (refl, (refl, (refl, (refl, (refl, (refl, (refl, (refl, (refl, (refl, (refl, (refl, (refl, (refl, (refl, (refl, (refl, (refl, (refl, (refl, (refl, (refl, (refl, (refl, (refl, (refl, (refl, (refl, (refl, (refl, (refl, (refl, (refl, (refl, (refl, (refl, tt))))))))))))))))))))))))))))))))))))))))))))))))))))))))))))))))))))))))))))))))))))))))))))))))))))))))))))))))))))))))))))))))))))))

@@ -1,7 +1,7 @@
 -- The files of the examples, byte by byte, by the letters of docs/RULES.md. Multi-byte fields have their lowest byte first.
 use mathlib.Core.List.{List, [], _∷_, _++_}
 use Prim.Native.Nat.{ℕ}
-use lib.ListN.{take, drop, set}
+use lib.ListN.{length, take, drop, set}
 
 -- A: articles 0 {wish 0}; 1 {1}, which clashes with 0; 2 {0, 1}; the order is {0, 1}. By lines: kind, articles, wishes; order; then the records,
 -- each its bit map, its wishes and, if they are marked, its clashes: 46 bytes
@@ -71,6 +71,34 @@ fileNamed =
     ∷ 4 ∷ 1 ∷ 97
     ∷ 4 ∷ 1 ∷ 97
     ∷ []
+
+-- a choice without wishes whose articles have these names, and a fitting of one step that has this name
+abbrev records : List (List ℕ) → List ℕ
+records [] = []
+records (name ∷ names) = 4 ∷ length name ∷ (name ++ records names)
+
+abbrev pub fileOf : List (List ℕ) → List ℕ
+fileOf names = 67 ∷ length names ∷ 0 ∷ 0 ∷ 0 ∷ 0 ∷ 0 ∷ 0 ∷ 0 ∷ 0 ∷ 0 ∷ records names
+
+abbrev pub fileStep : List ℕ → List ℕ
+fileStep name = 70 ∷ 1 ∷ 0 ∷ 0 ∷ 0 ∷ 0 ∷ 0 ∷ 0 ∷ 0 ∷ 0 ∷ 0 ∷ 0 ∷ 8 ∷ length name ∷ name
+
+-- "Büfett" as keyboards send it: ü is U+00FC, or u and U+0308; and in one byte, as no UTF-8 has it
+abbrev pub buffet : List ℕ
+buffet = 0x42 ∷ 0xc3 ∷ 0xbc ∷ 0x66 ∷ 0x65 ∷ 0x74 ∷ 0x74 ∷ []
+
+abbrev pub buffetApart : List ℕ
+buffetApart = 0x42 ∷ 0x75 ∷ 0xcc ∷ 0x88 ∷ 0x66 ∷ 0x65 ∷ 0x74 ∷ 0x74 ∷ []
+
+abbrev pub buffetByte : List ℕ
+buffetByte = 0x42 ∷ 0xfc ∷ 0x66 ∷ 0x65 ∷ 0x74 ∷ 0x74 ∷ []
+
+-- a character with an acute accent and a dot below it: U+0301, of class 230, and U+0323, of class 220, in either order
+abbrev pub acuteDot : List ℕ → List ℕ
+acuteDot base = base ++ (0xcc ∷ 0x81 ∷ 0xcc ∷ 0xa3 ∷ [])
+
+abbrev pub dotAcute : List ℕ → List ℕ
+dotAcute base = base ++ (0xcc ∷ 0xa3 ∷ 0xcc ∷ 0x81 ∷ [])
 
 -- F: step 0 needs 0, gives 1 and takes 0; steps 1 and 2 need 1 and give 2 and 3; the start is {0}, the goal {2, 3}. By lines: kind, steps, facts,
 -- horizon; start; goal; then the records, each its bit map, and as it marks them needs, gives and takes: 43 bytes

@@ -3,7 +3,7 @@
 use mathlib.Core.Path.{_≡_}
 use mathlib.Core.Bool.{true, false}
 use mathlib.Core.List.{List, [], _∷_, _++_}
-use Prim.Native.Nat.{ℕ, _+_, _*_, _/_, _%_, _^_}
+use Prim.Native.Nat.{ℕ, zero, suc, _+_, _*_, _/_, _%_, _^_}
 use lib.ListN.{length, take, drop, replicate, set}
 use Rattle.sets.specs.Sets.{member, count, setOf}
 use Rattle.sets.specs.Articles.{taking, givingUp}
@@ -28,7 +28,7 @@ use Rattle.calls.specs.Save.{saveOf}
 use Rattle.capi.specs.Returned.{Returned, returned, nothing, alone, passedWords, both, test, spotted}
 use Rattle.capi.specs.Version.{interfaceNumber}
 use Rattle.report.specs.Outcome.{outcomeOf, blankWords, textOf}
-use Rattle.examples.specs.Files.{fileA, fileShort, fileLong, fileFree, fileApart, fileB, fileCrossed, fileEmpty, fileMany, fileNamed, fileF, fileNear, fileG, fileBack}
+use Rattle.examples.specs.Files.{fileA, fileShort, fileLong, fileFree, fileApart, fileB, fileCrossed, fileEmpty, fileMany, fileNamed, fileOf, fileStep, buffet, buffetApart, buffetByte, acuteDot, dotAcute, fileF, fileNear, fileG, fileBack}
 
 -- what the definitions give, and what the rules say
 pub record Row : Type 1 where
@@ -160,6 +160,38 @@ rowsNames =
     ∷ says (compareOf fileNamed (set fileNamed 14 98)) (answered true)
     ∷ []
 
+-- n times the same bytes
+abbrev times : ℕ → List ℕ → List ℕ
+times zero bytes = []
+times (suc n) bytes = bytes ++ times n bytes
+
+-- one name from two keyboards: found both ways, in a fitting too, and at the lowest number that has it in either writing; the file's own bytes come back.
+-- Marks of different classes in either order, also if one is part of a character; two marks of class 230 in either order, and U+0301 and U+0323 with
+-- U+034F, of class 0, between them, are not the same. U+0344 is U+0308 U+0301: 32 bytes are found by 64. U+017F is covered; U+0180, U+02FF and U+0370 are
+-- not. U+0133 is no i and j, and U+212B no U+00C5. C1 81 is no A, and is found by its own bytes; a byte FC is no ü
+abbrev rowsKeyboards : List Row
+rowsKeyboards =
+    says (findOf (fileOf (buffet ∷ [])) buffetApart) (answered 0)
+    ∷ says (findOf (fileOf (buffetApart ∷ [])) buffet) (answered 0)
+    ∷ says (findOf (fileStep buffet) buffetApart) (answered 0)
+    ∷ says (findOf (fileOf ((97 ∷ []) ∷ buffet ∷ buffetApart ∷ [])) buffetApart) (answered 1)
+    ∷ is (nameOf (fileOf (buffetApart ∷ [])) 0) buffetApart
+    ∷ says (findOf (fileOf (acuteDot (0x61 ∷ []) ∷ [])) (dotAcute (0x61 ∷ []))) (answered 0)
+    ∷ says (findOf (fileOf ((0xc3 ∷ 0xa1 ∷ 0xcc ∷ 0xa3 ∷ []) ∷ [])) (dotAcute (0x61 ∷ []))) (answered 0)
+    ∷ says (findOf (fileOf ((0x61 ∷ 0xcc ∷ 0x81 ∷ 0xcc ∷ 0x80 ∷ []) ∷ [])) (0x61 ∷ 0xcc ∷ 0x80 ∷ 0xcc ∷ 0x81 ∷ [])) (refusedBy 16 0)
+    ∷ says (findOf (fileOf ((0x61 ∷ 0xcc ∷ 0x81 ∷ 0xcd ∷ 0x8f ∷ 0xcc ∷ 0xa3 ∷ []) ∷ [])) (0x61 ∷ 0xcc ∷ 0xa3 ∷ 0xcd ∷ 0x8f ∷ 0xcc ∷ 0x81 ∷ [])) (refusedBy 16 0)
+    ∷ says (findOf (fileOf (times 16 (0xcd ∷ 0x84 ∷ []) ∷ [])) (times 16 (0xcc ∷ 0x88 ∷ 0xcc ∷ 0x81 ∷ []))) (answered 0)
+    ∷ says (findOf (fileOf (acuteDot (0xc5 ∷ 0xbf ∷ []) ∷ [])) (dotAcute (0xc5 ∷ 0xbf ∷ []))) (answered 0)
+    ∷ says (findOf (fileOf (acuteDot (0xc6 ∷ 0x80 ∷ []) ∷ [])) (dotAcute (0xc6 ∷ 0x80 ∷ []))) (refusedBy 16 0)
+    ∷ says (findOf (fileOf (acuteDot (0xcb ∷ 0xbf ∷ []) ∷ [])) (dotAcute (0xcb ∷ 0xbf ∷ []))) (refusedBy 16 0)
+    ∷ says (findOf (fileOf (acuteDot (0xcd ∷ 0xb0 ∷ []) ∷ [])) (dotAcute (0xcd ∷ 0xb0 ∷ []))) (refusedBy 16 0)
+    ∷ says (findOf (fileOf ((0xc4 ∷ 0xb3 ∷ []) ∷ [])) (0x69 ∷ 0x6a ∷ [])) (refusedBy 16 0)
+    ∷ says (findOf (fileOf ((0xe2 ∷ 0x84 ∷ 0xab ∷ []) ∷ [])) (0xc3 ∷ 0x85 ∷ [])) (refusedBy 16 0)
+    ∷ says (findOf (fileOf ((0xc1 ∷ 0x81 ∷ []) ∷ [])) (0x41 ∷ [])) (refusedBy 16 0)
+    ∷ says (findOf (fileOf ((0xc1 ∷ 0x81 ∷ []) ∷ [])) (0xc1 ∷ 0x81 ∷ [])) (answered 0)
+    ∷ says (findOf (fileOf (buffetByte ∷ [])) buffet) (refusedBy 16 0)
+    ∷ []
+
 -- no article, no wish, nothing ordered: the empty selection. Every number of the rules, 2, 8, 14 and 15 above, at a place of its own if it has one;
 -- what is tested first; a buffer that is short stays as it was
 abbrev rowsNumbers : List Row
@@ -228,13 +260,14 @@ rowsC =
     ∷ is (returned alone (said (planOf fileF (nines 3)))) (handed 0 2 0)
     ∷ is (spotted (spotIn (read spots either fileNamed) 1)) (handed 0 14 1)
     ∷ is (returned alone (said (findOf fileNamed (97 ∷ [])))) (handed 0 1 0)
+    ∷ is (returned alone (said (findOf (fileOf (buffet ∷ [])) buffetApart))) (handed 0 0 0)
     ∷ is (returned test (said (compareOf fileA fileA))) (handed 0 1 0)
     ∷ is (returned test (said (compareOf fileA fileB))) (handed 0 0 0)
     ∷ is (returned alone (saveOf fileA (newOrder 1) (nines 47) .answer)) (handed 0 46 0)
     ∷ is (returned alone (saveOf fileA (newWishes 1 1) (nines 46) .answer)) (handed 0 46 0)
     ∷ is (returned alone (saveOf fileA (newClashes 1 2) [] .answer)) (handed 6 29 0)
     ∷ is (returned alone (saveOf fileA (newName 1 (nines 257)) [] .answer)) (handed 7 37 0)
-    ∷ is interfaceNumber 4
+    ∷ is interfaceNumber 5
     ∷ []
 
 -- what the program prints, in bytes: "chosen 1 2" and "aside 0" of B; "rounds 2", "1: 0" and "2: 1 2" of F; "refused 2 at 45"; "refused 14 at 0" of
@@ -274,4 +307,4 @@ rowsAnswers =
     ∷ []
 
 abbrev pub rows : List Row
-rows = rowsA ++ (rowsB ++ (rowsBound ++ (rowsF ++ (rowsNames ++ (rowsNumbers ++ (rowsSaving ++ (rowsC ++ (rowsText ++ (rowsSets ++ rowsAnswers)))))))))
+rows = rowsA ++ (rowsB ++ (rowsBound ++ (rowsF ++ (rowsNames ++ (rowsKeyboards ++ (rowsNumbers ++ (rowsSaving ++ (rowsC ++ (rowsText ++ (rowsSets ++ rowsAnswers))))))))))

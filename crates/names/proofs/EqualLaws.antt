@@ -4,7 +4,7 @@ use mathlib.Core.Logic.{_⊎_, inl, inr}
 use mathlib.Core.Bool.{Bool, true, false, _||_, false≢true}
 use mathlib.Core.List.{List, [], _∷_}
 use mathlib.Core.Option.{Option, none, some}
-use Prim.Native.Nat.{ℕ, _≤_}
+use Prim.Native.Nat.{ℕ, _*_, _≤_}
 use native.Mathlib.Omega.{arith}
 use lib.ListN.{length}
 use Rattle.sets.specs.Lists.{sameList}
@@ -15,7 +15,7 @@ use Rattle.unicode.specs.Forms.{textOf, nfd, formOf, form, sameForm}
 use Rattle.unicode.specs.Meaning.{short}
 use Rattle.unicode.proofs.Utf8Laws.{text-of-utf8, utf8-of-text}
 use Rattle.unicode.proofs.EquivalenceLaws.{equivalent-same, same-equivalent}
-use Rattle.unicode.proofs.LengthLaws.{short-same}
+use Rattle.unicode.proofs.LengthLaws.{bytes-twice, short-same}
 use Rattle.names.specs.Names.{SameText, Equal, sameName}
 
 -- ---- forms
@@ -92,6 +92,13 @@ same-for a b c e =
     same-true (sameName a b) (sameName a c)
     (λ t. equal-same a c (name-transitive a b c (same-equal a b t) e))
     (λ t. equal-same a b (name-transitive a c b (same-equal a c t) (name-symmetric b c e)))
+
+-- ---- lengths
+
+-- neither of two equal names has more than twice the bytes of the other
+pub equal-twice : (a b : List ℕ) → Equal a b → length b ≤ 2 * length a
+equal-twice a b (inl e) = omega (arith, ap length e)
+equal-twice a b (inr (x, y, xa, ya, xc, yc, e)) = omega (arith, ap length xa, ap length ya, bytes-twice x y yc (equivalent-same x y xc yc e))
 
 -- ---- as the code compares, where there is room for the form of the one
 

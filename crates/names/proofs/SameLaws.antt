@@ -14,7 +14,8 @@ use Rattle.sets.proofs.Ranges.{test-cases, list-at}
 use Rattle.sets.proofs.First.{first-cong}
 use Rattle.sets.proofs.Lists.{list-same, differ, agree}
 use Rattle.jobfile.specs.Meaning.{padded}
-use Rattle.names.specs.Names.{sameName, lowestNamed}
+use Rattle.names.specs.Names.{Equal, sameName, lowestNamed}
+use Rattle.names.proofs.EqualLaws.{name-symmetric, same-for, equal-twice}
 
 -- ---- arrays
 
@@ -47,6 +48,13 @@ search-none (b ∷ bs) n names h = absurd (omega arith)
 pub search-cong : (name : List ℕ) (n : ℕ) (names other : ℕ → List ℕ) → ((i : ℕ) → names i ≡ other i) → lowestNamed name n names ≡ lowestNamed name n other
 search-cong [] n names other h = refl
 search-cong (b ∷ bs) n names other h = first-cong (λ i. sameName (names i) (b ∷ bs)) (λ i. sameName (other i) (b ∷ bs)) n 0 (λ i l. ap (λ (x : List ℕ). sameName x (b ∷ bs)) (h i))
+
+-- equal names are those of the same number
+pub search-same : (a b : List ℕ) → Equal a b → (n : ℕ) (names : ℕ → List ℕ) → lowestNamed a n names ≡ lowestNamed b n names
+search-same [] [] e n names = refl
+search-same [] (y ∷ b) e n names = absurd (omega (arith, equal-twice [] (y ∷ b) e))
+search-same (x ∷ a) [] e n names = absurd (omega (arith, equal-twice [] (x ∷ a) (name-symmetric (x ∷ a) [] e)))
+search-same (x ∷ a) (y ∷ b) e n names = first-cong (λ i. sameName (names i) (x ∷ a)) (λ i. sameName (names i) (y ∷ b)) n 0 (λ i l. same-for (names i) (x ∷ a) (y ∷ b) e)
 
 -- a part from a start to its end is no longer than what lies between
 pub part-short : (s : List ℕ) (a l room : ℕ) → l ≤ room → length (take (a + l - a) (drop a s)) ≤ room

@@ -10,14 +10,14 @@ use lib.Dec.{leb, ltb, eqb}
 use lib.ListN.{length, length-append}
 use borrow.Author.Tests.{ltb-true, ltb-false, lt-ltb, le-ltb, le-leb, lt-leb, leb-true, leb-false}
 use Rattle.sets.specs.Lists.{sameList}
-use Rattle.sets.proofs.Ranges.{test-cases}
+use Rattle.sets.proofs.Ranges.{test-cases, both-true}
 use Rattle.sets.proofs.Lists.{list-same}
-use Rattle.unicode.specs.Utf8.{encoded, utf8}
+use Rattle.unicode.specs.Utf8.{encoded, utf8, covers, coversAll}
 use Rattle.unicode.specs.Canonical.{entryOf, secondOf, partsIn, parts}
 use Rattle.unicode.specs.Forms.{textOf, apart, nfd, formOf, form, sameForm}
 use Rattle.unicode.specs.Meaning.{short}
 use Rattle.unicode.proofs.OrderLaws.{ordered-length}
-use Rattle.unicode.proofs.Utf8Laws.{utf8-of-text}
+use Rattle.unicode.proofs.Utf8Laws.{covered-low, utf8-of-text}
 
 pair-most : (e : ℕ) → length (partsIn e) ≤ 2
 pair-most e = go (test-cases (eqb (secondOf e) 0))
@@ -46,6 +46,32 @@ parts-most : (cs : List ℕ) → length (apart cs) ≤ length (utf8 cs)
 unfolding apart utf8
 parts-most [] = omega arith
 parts-most (c ∷ cs) = omega (arith, parts-most cs, one-part c, length-append (parts c) (apart cs), length-append (encoded c) (utf8 cs))
+
+-- and no fewer than half as many: a covered character has at most two bytes, and gives way to one character at least
+bytes-most : (c : ℕ) → covers c ≡ true → length (encoded c) ≤ 2
+bytes-most c h = go (test-cases (ltb c 0x80))
+  where
+    go : (ltb c 0x80 ≡ true) ⊎ (ltb c 0x80 ≡ false) → length (encoded c) ≤ 2
+    go (inl t) = rw t (omega arith)
+    go (inr t) = rw (t, lt-ltb c 0x800 (omega (arith, covered-low c h))) (omega arith)
+
+one-least : (c : ℕ) → 1 ≤ length (parts c)
+one-least c = go (test-cases (ltb c 0xc0))
+  where
+    go : (ltb c 0xc0 ≡ true) ⊎ (ltb c 0xc0 ≡ false) → 1 ≤ length (parts c)
+    go (inl t) = rw t (omega arith)
+    go (inr t) = rw t (omega arith)
+
+parts-least : (cs : List ℕ) → coversAll cs ≡ true → length (utf8 cs) ≤ 2 * length (apart cs)
+unfolding apart utf8 coversAll
+parts-least [] h = omega arith
+parts-least (c ∷ cs) h =
+    let (p, q) = both-true (covers c) (coversAll cs) h in
+    omega (arith, parts-least cs q, bytes-most c p, one-least c, length-append (parts c) (apart cs), length-append (encoded c) (utf8 cs))
+
+-- so of two texts with one form neither has more than twice the bytes of the other
+pub bytes-twice : (x y : List ℕ) → coversAll y ≡ true → nfd x ≡ nfd y → length (utf8 y) ≤ 2 * length (utf8 x)
+bytes-twice x y h e = omega (arith, parts-most x, parts-least y h, ordered-length (apart x), ordered-length (apart y), ap length e)
 
 -- the form of bytes that there is room for has room
 pub short-all : (room : ℕ) (s : List ℕ) → length s ≤ room → short room (form s) ≡ form s
