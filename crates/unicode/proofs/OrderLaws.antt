@@ -34,21 +34,6 @@ reorder-none a b p = go (test-cases (ltb (class b) (class a)))
     go (inl t) = simp (t, le-ltb 0 (class b) p)
     go (inr t) = simp t
 
--- as the code tests it
-pub reorder-known : (a b x y : ℕ) → x ≡ class b → y ≡ class a → (x ≡ 0 → ⊥) → ltb x y ≡ reorderable a b
-unfolding reorderable
-reorder-known a b x y p q n =
-    let pos : 0 < class b = positive (class b) (λ e. n (p ∙ e)) in
-    go pos (test-cases (ltb (class b) (class a)))
-  where
-    positive : (k : ℕ) → (k ≡ 0 → ⊥) → 0 < k
-    positive zero h = absurd (h refl)
-    positive (suc k) h = omega arith
-
-    go : 0 < class b → (ltb (class b) (class a) ≡ true) ⊎ (ltb (class b) (class a) ≡ false) → ltb x y ≡ ltb (class b) (class a) && ltb 0 (class b)
-    go pos (inl t) = rw (p, q, t) (sym (lt-ltb 0 (class b) pos))
-    go pos (inr t) = rw (p, q, t) refl
-
 -- ---- one character more
 
 pub insert-past : (c d : ℕ) (ds : List ℕ) → reorderable c d ≡ true → inserted c (d ∷ ds) ≡ d ∷ inserted c ds

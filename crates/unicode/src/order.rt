@@ -40,7 +40,10 @@ fn reorderable(a: u16, b: u16) -> bool
     if second == 0 {
         return false;
     }
-    second < class(a)
+    if class(a) <= second {
+        return false;
+    }
+    true
 }
 
 // One character more behind those that are in order: it is exchanged with the one before it as long as

@@ -28,7 +28,10 @@ fn covered(c: u16) -> bool
     if c < 0x300 {
         return false;
     }
-    c < 0x370
+    if 0x370 <= c {
+        return false;
+    }
+    true
 }
 
 // Whether two bytes are those of a covered character. From 0xc2 on: below it the form would be longer than needed.

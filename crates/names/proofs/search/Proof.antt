@@ -80,8 +80,7 @@ equal-requires : tie.Need-equal-requires Inv-loop μ-loop
 equal-requires c κs =
     let b = c .before .before .before .before .before .before .before in
     let l = c .before .before .loop in
-    let i = b .args .n - l .left in
-    (part-short (b .args .file .now) (getD (b .args .t2) i 0) (getD (b .args .t3) i 0) 32 (b .pre .2 i), l .inv .3, l .inv .4)
+    (part-short (b .args .file .now) _ _ 32 (b .pre .2 _), l .inv .3, l .inv .4)
 
 returns-2 : tie.Need-returns-2 Inv-loop μ-loop
 returns-2 c =

@@ -35,7 +35,8 @@ returns-2 : tie.Need-returns-2
 returns-2 c =
     let b = c .before .before .before .before in
     let e = c .before .before .entry in
-    (c .before .put2 .ensures .0, c .before .put2 .ensures .1 ∙ sym (ap (moreAll 32 (told (b .args .f))) (parts-one (b .args .c) (e .result) (b .pre .1) (c .before .before .before .if1 .left) (e .ensures) (c .if2 .taken)) ∙ more-one 32 (told (b .args .f)) (firstOf (e .result))))
+    let single : secondOf (e .result) ≡ 0 = omega (arith, c .if2 .taken) in
+    (c .before .put2 .ensures .0, c .before .put2 .ensures .1 ∙ sym (ap (moreAll 32 (told (b .args .f))) (parts-one (b .args .c) (e .result) (b .pre .1) (c .before .before .before .if1 .left) (e .ensures) single) ∙ more-one 32 (told (b .args .f)) (firstOf (e .result))))
 
 cast-put-2 : tie.Need-cast-put-2
 cast-put-2 c = search needs

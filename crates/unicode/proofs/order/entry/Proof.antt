@@ -1,6 +1,6 @@
 -- `unicode::order::entry` meets its contract.
 use borrow.Author.Needs.{needs}
-use mathlib.Core.Path.{_≡_, ap, sym, _∙_}
+use mathlib.Core.Path.{_≡_, refl, ap, sym, _∙_}
 use mathlib.Core.Bool.{true, false, _||_}
 use Prim.Native.Nat.{ℕ, _+_, _-_, _≤_, _<_}
 use native.Mathlib.Omega.{arith}
@@ -35,10 +35,13 @@ at-requires-2 : tie.Need-at-requires-2
 at-requires-2 c κs = omega (arith, covered-high (c .before .args .c) (c .before .pre .1) (c .if1 .left), covered-low (c .before .args .c) (c .before .pre .1))
 
 returns-2 : tie.Need-returns-2
-returns-2 c = c .at2 .ensures ∙ ap (λ (i : ℕ). getD table i 0) (placed (c .before .before .args .c) (c .before .if1 .left))
+returns-2 c =
+    let x = c .before .before .args .c in
+    let high : 0x180 ≤ x = c .before .if1 .left in
+    c .at2 .ensures ∙ ap (λ (i : ℕ). getD table i 0) (let place : _ ≡ 192 + (x - 0x300) = omega (arith, high) in place) ∙ ap (λ (i : ℕ). getD table i 0) (marked x high)
   where
-    placed : (x : ℕ) → 0x180 ≤ x → x - 0x300 + 192 ≡ placeOf x
-    placed x h = rw (le-ltb x 0x180 h) (omega arith)
+    marked : (x : ℕ) → 0x180 ≤ x → 192 + (x - 0x300) ≡ placeOf x
+    marked x h = sym (rw (le-ltb x 0x180 h) refl)
 
 pub entry-spec : {M : Type 1} → statement M
 entry-spec =

@@ -10,10 +10,10 @@ returns : tie.Need-returns
 returns c = simp (lt-leb 0xc2 (c .before .args .a) (omega (arith, c .if1 .taken)))
 
 returns-2 : tie.Need-returns-2
-returns-2 c = simp (le-leb 0xc2 (c .before .before .args .a) (omega (arith, c .before .if1 .left)), lt-leb 0x80 (c .before .before .args .b) (c .if2 .taken))
+returns-2 c = simp (le-leb 0xc2 (c .before .before .args .a) (omega (arith, c .before .if1 .left)), lt-leb 0x80 (c .before .before .args .b) (omega (arith, c .if2 .taken)))
 
 returns-3 : tie.Need-returns-3
-returns-3 c = simp (le-leb 0xc2 (c .before .before .before .args .a) (omega (arith, c .before .before .if1 .left)), le-leb 0x80 (c .before .before .before .args .b) (c .before .if2 .left), le-ltb (c .before .before .before .args .b) 0xc0 (c .if3 .taken))
+returns-3 c = simp (le-leb 0xc2 (c .before .before .before .args .a) (omega (arith, c .before .before .if1 .left)), le-leb 0x80 (c .before .before .before .args .b) (omega (arith, c .before .if2 .left)), le-ltb (c .before .before .before .args .b) 0xc0 (omega (arith, c .if3 .taken)))
 
 sub-covered : tie.Need-sub-covered
 sub-covered c = search needs
@@ -28,7 +28,7 @@ covered-requires : tie.Need-covered-requires
 covered-requires c κs = search needs
 
 returns-4 : tie.Need-returns-4
-returns-4 c = c .covered .ensures ∙ simp (le-leb 0xc2 (c .before .before .before .before .args .a) (omega (arith, c .before .before .before .if1 .left)), le-leb 0x80 (c .before .before .before .before .args .b) (c .before .before .if2 .left), lt-ltb (c .before .before .before .before .args .b) 0xc0 (c .before .if3 .left))
+returns-4 c = c .covered .ensures ∙ simp (le-leb 0xc2 (c .before .before .before .before .args .a) (omega (arith, c .before .before .before .if1 .left)), le-leb 0x80 (c .before .before .before .before .args .b) (omega (arith, c .before .before .if2 .left)), lt-ltb (c .before .before .before .before .args .b) 0xc0 (omega (arith, c .before .if3 .left)))
 
 pub is-pair-spec : {M : Type 1} → statement M
 is-pair-spec =

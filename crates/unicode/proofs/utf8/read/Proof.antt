@@ -24,7 +24,7 @@ sub-if2 c = search needs
 returns-2 : tie.Need-returns-2
 returns-2 c =
     let a = c .before .before .before .before .before .args in
-    read-cut (a .bytes .now) (a .at) (c .before .before .wide .result) (c .before .before .before .before .before .pre) (c .before .before .wide .ensures .0) (c .before .if1 .left) (c .if2 .taken)
+    read-cut (a .bytes .now) (a .at) (c .before .before .wide .result) (c .before .before .before .before .before .pre) (c .before .before .wide .ensures .0) (c .before .if1 .left) (omega (arith, c .if2 .taken))
 
 add-wide : tie.Need-add-wide
 add-wide c = search needs
