@@ -83,8 +83,8 @@
 #ifndef KITCHEN_H
 #define KITCHEN_H
 
-/* Goes up whenever a declaration or a number below changes, or the meaning of a word of `out`. kitchen_version() tells
- * the number of the library that was built. */
+/* Goes up whenever a declaration or a number below changes, the meaning of a word of `out`, or what a call answers.
+ * kitchen_version() tells the number of the library that was built. */
 #define KITCHEN_VERSION 5
 
 #include <stddef.h>
@@ -174,7 +174,9 @@ uint32_t kitchen_plan(const uint8_t *file, size_t file_len, uint32_t *rounds, si
  * out: its start, its length; 0, 0 if the file is refused, lacks that number, or has no name for it */
 uint32_t kitchen_name(const uint8_t *file, size_t file_len, uint64_t number, uint64_t out[2]);
 
-/* The lowest article or step with this name. 16 is "none has it".
+/* The lowest article or step with this name, or with an equal one: the same bytes, or the same text typed in another way
+ * (both are UTF-8, with no characters but those below U+0180 and from U+0300 to U+036F, and canonically equivalent). Any
+ * other name is found by its own bytes only, and the empty one nowhere; a name may have any length. 16 is "none has it".
  * out: its number, 0 */
 uint32_t kitchen_find(const uint8_t *file, size_t file_len, const uint8_t *name, size_t name_len, uint64_t out[2]);
 

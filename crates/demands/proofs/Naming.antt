@@ -2,15 +2,15 @@
 -- an equal one, and that 16 says that none has, is among the demands (`demand-1-find-lowest`, `demand-1-find-none`). Assumes nothing.
 use mathlib.Core.Path.{_≡_, refl, sym, ap, _∙_}
 use mathlib.Core.Logic.{inl, inr}
-use mathlib.Core.Bool.{true, true≢false}
-use mathlib.Core.List.{List, [], _∷_}
+use mathlib.Core.Bool.{true}
+use mathlib.Core.List.{List, []}
 use mathlib.Core.Option.{Option, none, some}
 use Prim.Native.Nat.{ℕ, _≤_, _<_}
 use native.Mathlib.Decide.{decLt}
 use native.Mathlib.Omega.{arith}
 use lib.ListN.{length, getD}
 use Rattle.reading.specs.declared.Reason.the-variants.{NameNotFound}
-use Rattle.reading.specs.Got.{Got, got}
+use Rattle.reading.specs.Got.{got}
 use Rattle.unicode.specs.Utf8.{utf8, covers, coversAll}
 use Rattle.unicode.specs.Canonical.{parts, Many, Apart, Exchanged, InOrder, Decomposition}
 use Rattle.unicode.specs.Forms.{nfd}
@@ -25,7 +25,7 @@ use Rattle.names.specs.Names.{Equal, sameName, lowestNamed}
 use Rattle.names.proofs.EqualLaws.{same-equal, equal-same, name-reflexive, name-symmetric, name-transitive, equal-twice}
 use Rattle.names.proofs.SameLaws.{search-same}
 use Rattle.arguments.specs.Answers.{onJob, foundOr, refusedBy, answered, said}
-use Rattle.calls.specs.Find.{findIn, findOf}
+use Rattle.calls.specs.Find.{findOf}
 use Rattle.calls.specs.Name.{nameOf}
 use Rattle.demands.specs.Demands.{Exactly, Has}
 use Rattle.demands.proofs.DemandLaws.{lowest-exactly, nobody-exactly}

@@ -45,7 +45,8 @@ module _ (takes : ℕ → Bool) (f : List ℕ) (bytes : Bytes f) where
       → (i : ℕ) → getD (namesRead (read spots takes f) .lens) i 0 ≤ 32
   lens-short few within i =
       omega (
-      arith,
-      name-short i,
-      ap length (name-at-spot f takes i ∙ ap (bytesAt f) (sym (names-spot (read spots takes f) few i))),
-      length-take-le (getD (namesRead (read spots takes f) .lens) i 0) (drop (getD (namesRead (read spots takes f) .starts) i 0) f) (rw (length-drop (getD (namesRead (read spots takes f) .starts) i 0) f) (omega (arith, within i))))
+        arith,
+        name-short i,
+        ap length (name-at-spot f takes i ∙ ap (bytesAt f) (sym (names-spot (read spots takes f) few i))),
+        length-take-le (getD (namesRead (read spots takes f) .lens) i 0) (drop (getD (namesRead (read spots takes f) .starts) i 0) f) (rw (length-drop (getD (namesRead (read spots takes f) .starts) i 0) f) (omega (arith, within i))),
+      )

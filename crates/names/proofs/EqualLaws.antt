@@ -2,7 +2,7 @@
 use mathlib.Core.Path.{_≡_, refl, sym, ap, _∙_}
 use mathlib.Core.Logic.{_⊎_, inl, inr}
 use mathlib.Core.Bool.{Bool, true, false, _||_, false≢true}
-use mathlib.Core.List.{List, [], _∷_}
+use mathlib.Core.List.{List}
 use mathlib.Core.Option.{Option, none, some}
 use Prim.Native.Nat.{ℕ, _*_, _≤_}
 use native.Mathlib.Omega.{arith}
@@ -10,7 +10,6 @@ use lib.ListN.{length}
 use Rattle.sets.specs.Lists.{sameList}
 use Rattle.sets.proofs.Ranges.{either-true, same-true}
 use Rattle.sets.proofs.Lists.{same-list, list-same, agree}
-use Rattle.unicode.specs.Utf8.{utf8, coversAll}
 use Rattle.unicode.specs.Forms.{textOf, nfd, formOf, form, sameForm}
 use Rattle.unicode.specs.Meaning.{short}
 use Rattle.unicode.proofs.Utf8Laws.{text-of-utf8, utf8-of-text}

@@ -1,15 +1,15 @@
 -- Normalization form D is the canonical decomposition, and a text has no other: however characters were taken apart and pairs exchanged. Assumes nothing.
 use mathlib.Core.Path.{_≡_, refl, sym, ap, subst, _∙_}
 use mathlib.Core.Logic.{_⊎_, inl, inr}
-use mathlib.Core.Bool.{Bool, true, false, cond, _&&_}
-use mathlib.Core.List.{List, [], _∷_, _++_, append-assoc}
+use mathlib.Core.Bool.{true, false}
+use mathlib.Core.List.{List, [], _∷_, _++_}
 use Prim.Native.Nat.{ℕ, zero, suc}
 use Rattle.sets.proofs.Ranges.{test-cases, both-true}
 use Rattle.unicode.specs.Utf8.{covers, coversAll}
 use Rattle.unicode.specs.Canonical.{parts, reorderable, Times, Many, Mapped, Apart, Exchanged, InOrder, Decomposition, Equivalent}
 use Rattle.unicode.specs.Forms.{apart, inserted, ordered, nfd}
 use Rattle.unicode.proofs.TableLaws.{fixed, apart-append, apart-same, both-apart}
-use Rattle.unicode.proofs.OrderLaws.{insert-past, insert-here, exchanged, calm-ordered, ordered-calm}
+use Rattle.unicode.proofs.OrderLaws.{exchanged, order-kept, order-made}
 
 -- ---- many steps
 
@@ -76,11 +76,12 @@ unfolding coversAll apart
 mapped-same x y h (front, back, c, p, q) =
     let (u, v) = covers-parts front (c ∷ back) (rw p at h) in
     let (s, t) = both-true (covers c) (coversAll back) v in
-    let (f, g) = fixed c s in
-    (rw q (covers-append front (parts c ++ back) u (covers-append (parts c) back f t)),
+    let (f, g) = fixed c s in (
+      rw q (covers-append front (parts c ++ back) u (covers-append (parts c) back f t)),
       ap apart q ∙ apart-append front (parts c ++ back)
-      ∙ ap (λ (l : List ℕ). apart front ++ l) (apart-append (parts c) back ∙ ap (λ (l : List ℕ). l ++ apart back) (apart-same (parts c) g))
-      ∙ sym (apart-append front (c ∷ back)) ∙ ap apart (sym p))
+          ∙ ap (λ (l : List ℕ). apart front ++ l) (apart-append (parts c) back ∙ ap (λ (l : List ℕ). l ++ apart back) (apart-same (parts c) g))
+          ∙ sym (apart-append front (c ∷ back)) ∙ ap apart (sym p),
+    )
 
 times-same : (k : ℕ) (x y : List ℕ) → coversAll x ≡ true → Times Mapped k x y → apart y ≡ apart x
 times-same zero x y h e = ap apart (sym e)
@@ -116,12 +117,12 @@ exchanges-same (suc k) x y (z, (front, back, a, b, h, p, q), t) = ap ordered p �
 
 -- whichever pairs were exchanged first, what has no reorderable pair left is the same
 pub order-only : (x y : List ℕ) → Many Exchanged x y → InOrder y → y ≡ ordered x
-order-only x y (k, t) o = sym (calm-ordered y o) ∙ sym (exchanges-same k x y t)
+order-only x y (k, t) o = sym (order-kept y o) ∙ sym (exchanges-same k x y t)
 
 -- ---- both
 
 pub nfd-decomposes : (x : List ℕ) → coversAll x ≡ true → Decomposition x (nfd x)
-nfd-decomposes x h = (apart x, apart-reached x, apart-whole x h .1, order-reached (apart x), ordered-calm (apart x))
+nfd-decomposes x h = (apart x, apart-reached x, apart-whole x h .1, order-reached (apart x), order-made (apart x))
 
 pub decomposition-nfd : (x d : List ℕ) → coversAll x ≡ true → Decomposition x d → d ≡ nfd x
 decomposition-nfd x d h (y, m, a, e, o) = order-only y d e o ∙ ap ordered (apart-only x y h m a)

@@ -4,17 +4,17 @@ use mathlib.Core.Logic.{_⊎_, inl, inr}
 use mathlib.Core.Bool.{Bool, true, false, cond, _&&_, true≢false, false≢true}
 use mathlib.Core.List.{List, [], _∷_, _++_, append-assoc, append-nil}
 use mathlib.Core.Option.{Option, none, some}
-use Prim.Native.Nat.{ℕ, zero, suc, _+_, _-_, _/_, _%_, _<_, _≤_}
+use Prim.Native.Nat.{ℕ, _+_, _-_, _<_, _≤_}
 use native.Mathlib.Omega.{arith}
-use lib.Dec.{leb, ltb, eqb}
-use lib.ListN.{length, getD, take, drop, length-append}
+use lib.Dec.{ltb, eqb}
+use lib.ListN.{length, getD, take, length-append}
 use lib.Seq.{length-take-le, getD-take}
 use borrow.Author.Tests.{ltb-true, ltb-false, lt-ltb, le-ltb, le-leb, lt-leb, eq-eqb, ne-eqb}
 use Rattle.sets.proofs.Ranges.{test-cases, both-true}
 use Rattle.sets.proofs.Lists.{all-same, one-differs, lengths-differ}
 use Rattle.unicode.specs.Utf8.{covers, coversAll}
 use Rattle.unicode.specs.Canonical.{entryOf, firstOf, secondOf, partsIn, parts, reorderable}
-use Rattle.unicode.specs.Forms.{before, textOf, apart, inserted, ordered, nfd, formOf, form, sameForm}
+use Rattle.unicode.specs.Forms.{before, textOf, apart, inserted, ordered, formOf, sameForm}
 use Rattle.unicode.specs.Meaning.{toldBy, SoundBy, short, more, moreAll}
 use Rattle.unicode.proofs.OrderLaws.{ordered-again, ordered-length}
 use Rattle.unicode.proofs.TableLaws.{fixed}
@@ -123,9 +123,10 @@ ordered-twice l = ap ordered (sym (append-nil (ordered l))) ∙ ordered-again l 
 pub put-more : (room : ℕ) (known : Bool) (count c : ℕ) (chars next : List ℕ) → known ≡ true → length chars ≡ room → count < room → covers c ≡ true → SoundBy room known count (take count chars)
     → take (count + 1) next ≡ ordered (take count chars ++ (c ∷ []))
     → SoundBy room true (count + 1) (take (count + 1) next) × (some (take (count + 1) next) ≡ more room (toldBy known (take count chars)) c)
-put-more room true count c chars next k l h v (s, a, o) e =
-    ((omega arith, rw e (covers-ordered (take count chars ++ (c ∷ [])) (covers-append (take count chars) (c ∷ []) a (one-covered c v))), rw e (ordered-twice (take count chars ++ (c ∷ [])))),
-      rw (e, lt-ltb (length (take count chars)) room (omega (arith, length-take-le count chars (omega arith)))) refl)
+put-more room true count c chars next k l h v (s, a, o) e = (
+  (omega arith, rw e (covers-ordered (take count chars ++ (c ∷ [])) (covers-append (take count chars) (c ∷ []) a (one-covered c v))), rw e (ordered-twice (take count chars ++ (c ∷ [])))),
+  rw (e, lt-ltb (length (take count chars)) room (omega (arith, length-take-le count chars (omega arith)))) refl,
+)
 put-more room false count c chars next k l h v s e = absurd (false≢true k)
 
 pub put-full : (room : ℕ) (known : Bool) (count c : ℕ) (chars : List ℕ) → known ≡ true → length chars ≡ room → room ≤ count → SoundBy room known count (take count chars) → none ≡ more room (toldBy known (take count chars)) c

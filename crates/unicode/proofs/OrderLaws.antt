@@ -1,12 +1,12 @@
 -- Canonical order: an exchange of a reorderable pair leaves it as it is; it has no reorderable pair; and what has none is its own order. Assumes nothing.
 use mathlib.Core.Path.{_≡_, refl, sym, ap, _∙_}
 use mathlib.Core.Logic.{_⊎_, inl, inr}
-use mathlib.Core.Bool.{Bool, true, false, cond, _&&_, true≢false, false≢true}
+use mathlib.Core.Bool.{true, false, _&&_, true≢false}
 use mathlib.Core.List.{List, [], _∷_, _++_}
-use Prim.Native.Nat.{ℕ, zero, suc, _+_, _<_, _≤_}
+use Prim.Native.Nat.{ℕ, suc, _+_, _<_, _≤_}
 use native.Mathlib.Omega.{arith}
 use lib.Dec.{ltb}
-use lib.ListN.{length, length-append}
+use lib.ListN.{length}
 use borrow.Author.Tests.{ltb-true, lt-ltb, le-ltb}
 use Rattle.sets.proofs.Ranges.{test-cases, both-true}
 use Rattle.unicode.specs.Canonical.{class, reorderable, InOrder}
@@ -106,26 +106,26 @@ exchanged xs a b ys e = ordered-append xs (a ∷ b ∷ ys) ∙ ap (onto xs) (swa
 -- ---- texts without a reorderable pair
 
 -- such a text is its own order
-pub calm-ordered : (l : List ℕ) → InOrder l → ordered l ≡ l
+pub order-kept : (l : List ℕ) → InOrder l → ordered l ≡ l
 unfolding ordered inserted
-calm-ordered [] c = refl
-calm-ordered (a ∷ []) c = refl
-calm-ordered (a ∷ b ∷ l) (h, c) = ap (inserted a) (calm-ordered (b ∷ l) c) ∙ insert-here a b l h
+order-kept [] c = refl
+order-kept (a ∷ []) c = refl
+order-kept (a ∷ b ∷ l) (h, c) = ap (inserted a) (order-kept (b ∷ l) c) ∙ insert-here a b l h
 
-pub calm-tail : (a : ℕ) (l : List ℕ) → InOrder (a ∷ l) → InOrder l
-calm-tail a [] c = tt
-calm-tail a (b ∷ l) (h, c) = c
+pub order-tail : (a : ℕ) (l : List ℕ) → InOrder (a ∷ l) → InOrder l
+order-tail a [] c = tt
+order-tail a (b ∷ l) (h, c) = c
 
 -- a text in order has no reorderable pair
-calm-inserted : (c : ℕ) (l : List ℕ) → InOrder l → InOrder (inserted c l)
+order-inserted : (c : ℕ) (l : List ℕ) → InOrder l → InOrder (inserted c l)
 unfolding inserted
-calm-inserted c [] h = tt
-calm-inserted c (d ∷ []) h = go (test-cases (reorderable c d))
+order-inserted c [] h = tt
+order-inserted c (d ∷ []) h = go (test-cases (reorderable c d))
   where
     go : (reorderable c d ≡ true) ⊎ (reorderable c d ≡ false) → InOrder (inserted c (d ∷ []))
     go (inl x) = rw x (reorder-no d c (let (p, q) = reorder-from c d x in omega arith), tt)
     go (inr x) = rw x (x, tt)
-calm-inserted c (d ∷ e ∷ l) (h, g) = go (calm-inserted c (e ∷ l) g) (test-cases (reorderable c d)) (test-cases (reorderable c e))
+order-inserted c (d ∷ e ∷ l) (h, g) = go (order-inserted c (e ∷ l) g) (test-cases (reorderable c d)) (test-cases (reorderable c e))
   where
     below : reorderable c d ≡ true → reorderable d c ≡ false
     below x = reorder-no d c (let (p, q) = reorder-from c d x in omega arith)
@@ -135,10 +135,10 @@ calm-inserted c (d ∷ e ∷ l) (h, g) = go (calm-inserted c (e ∷ l) g) (test-
     go ih (inl x) (inr y) = rw (x, y) (below x, (y, g))
     go ih (inr x) y = rw x (x, (h, g))
 
-pub ordered-calm : (l : List ℕ) → InOrder (ordered l)
+pub order-made : (l : List ℕ) → InOrder (ordered l)
 unfolding ordered
-ordered-calm [] = tt
-ordered-calm (c ∷ cs) = calm-inserted c (ordered cs) (ordered-calm cs)
+order-made [] = tt
+order-made (c ∷ cs) = order-inserted c (ordered cs) (order-made cs)
 
 -- ---- lengths
 

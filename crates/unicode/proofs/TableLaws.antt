@@ -1,9 +1,8 @@
 -- The rule over the table: no entry's decomposition can be taken apart further. One test, computed over all covered characters. Assumes nothing.
 use mathlib.Core.Path.{_≡_, refl, ap, sym, _∙_}
-use mathlib.Core.Bool.{Bool, true, false, cond, _&&_, _||_, not}
+use mathlib.Core.Bool.{Bool, true, _&&_, _||_, not}
 use mathlib.Core.List.{List, [], _∷_, _++_, append-assoc}
 use Prim.Native.Nat.{ℕ}
-use lib.Dec.{eqb}
 use Rattle.sets.specs.Ranges.{everyTo}
 use Rattle.sets.specs.Lists.{sameList}
 use Rattle.sets.proofs.Ranges.{both-true, true-where, every-at}

@@ -1,6 +1,6 @@
--- Decompositions and combining classes of UnicodeData.txt (Unicode 15.0.0), fields 5 and 3: one entry for every character from U+00C0 to U+017F
--- and from U+0300 to U+036F. An entry is first + 4096 * second + 16777216 * class: a character without a canonical decomposition stands for
--- itself, and 0 is no second character. tools/unicode_table.py writes and compares the entries.
+-- Canonical mappings and combining classes of the Unicode Character Database: fields 5 and 3 of UnicodeData.txt, version 15.0.0. One entry for every
+-- character from U+00C0 to U+017F, and after these from U+0300 to U+036F, as 0xCC_SSS_FFF: combining class, second character, first character. A
+-- character that has no canonical mapping is its own first character, and 0 is no second character. tools/unicode_table.py makes and compares the entries.
 use mathlib.Core.List.{List, [], _∷_}
 use Prim.Native.Nat.{ℕ}
 

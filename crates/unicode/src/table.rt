@@ -1,12 +1,12 @@
-// Decompositions and combining classes of UnicodeData.txt (Unicode 15.0.0).
+// Canonical mappings and combining classes of the Unicode Character Database, version 15.0.0.
 ghost use mathlib.Core.Path.{_≡_};
 ghost use Prim.Native.Nat.{_<_};
 ghost use lib.ListN.{getD};
 ghost use Rattle.unicode.specs.Table.{table};
 
-// Entry i is of U+00C0 + i up to U+017F, and behind that of U+0300 to U+036F: its combining class, the
-// second and the first character of its decomposition, as 0xCC_SSS_FFF. A character without a
-// decomposition stands for itself, and 0 is no second character.
+// An entry for every character from U+00C0 to U+017F, and after these from U+0300 to U+036F, as
+// 0xCC_SSS_FFF: combining class, second character, first character. A character that has no canonical
+// mapping is its own first character, and 0 is no second character.
 const TABLE: [u32; 304] = [
     // BEGIN TABLE (tools/unicode_table.py)
     0x00_300_041,
@@ -316,6 +316,7 @@ const TABLE: [u32; 304] = [
     // END TABLE
 ];
 
+// Entry i of the table.
 pub fn at(i: usize) -> u32
     requires { ⌜ i < 304 ⌝ }
     ensures { λ r. ⌜ r ≡ getD table i 0 ⌝ }

@@ -2,7 +2,6 @@
 use borrow.Author.Needs.{needs}
 use borrow.Author.Tests.{not-true}
 use mathlib.Core.Path.{_≡_, refl, sym, ap, _∙_}
-use mathlib.Core.Bool.{Bool, true, false}
 use mathlib.Core.List.{List}
 use mathlib.Core.Option.{Option, none}
 use Prim.Native.Nat.{ℕ, _+_, _-_, _≤_}
@@ -45,11 +44,12 @@ returns-2 : tie.Need-returns-2 Inv-loop μ-loop
 returns-2 c =
     let l = c .before .before .before .before .before .before .loop in
     let b = c .before .before .before .before .before .before .before .before .args .bytes .now in
-    let r = c .before .before .read in
-    (c .unknown .ensures .0,
+    let r = c .before .before .read in (
+      c .unknown .ensures .0,
       c .unknown .ensures .1 ∙ sym (rest-none 32 (told (l .done)))
-      ∙ ap (rest 32 (told (l .done))) (sym (read-none (r .result .size) (r .result .code) (drop (l .at) b) (c .before .if2 .taken) (r .ensures)))
-      ∙ l .inv .3)
+          ∙ ap (rest 32 (told (l .done))) (sym (read-none (r .result .size) (r .result .code) (drop (l .at) b) (c .before .if2 .taken) (r .ensures)))
+          ∙ l .inv .3,
+    )
 
 add-requires : tie.Need-add-requires Inv-loop μ-loop
 add-requires c κs =
@@ -80,13 +80,16 @@ loop-again c =
     let l = c .before .before .before .before .before .before .loop in
     let b = c .before .before .before .before .before .before .before .before .args .bytes .now in
     let r = c .before .before .read in
-    let (p, q, t) = read-some (r .result .size) (r .result .code) (drop (l .at) b) (c .before .if2 .left) (r .ensures) in
-    (omega (arith, length-drop (l .at) b, l .inv .0, l .inv .1), l .inv .1, c .add .ensures .0,
+    let (p, q, t) = read-some (r .result .size) (r .result .code) (drop (l .at) b) (c .before .if2 .left) (r .ensures) in (
+      omega (arith, length-drop (l .at) b, l .inv .0, l .inv .1),
+      l .inv .1,
+      c .add .ensures .0,
       ap (λ (o : Option (List ℕ)). rest 32 o (textOf (drop (l .at + r .result .size) b))) (c .add .ensures .1)
-      ∙ ap (λ (x : List ℕ). rest 32 (moreAll 32 (told (l .done)) (parts (r .result .code))) (textOf x)) (sym (drop-drop (r .result .size) (l .at) b))
-      ∙ sym (rest-next 32 (told (l .done)) (r .result .code) (textOf (drop (r .result .size) (drop (l .at) b))))
-      ∙ ap (rest 32 (told (l .done))) (sym t)
-      ∙ l .inv .3)
+          ∙ ap (λ (x : List ℕ). rest 32 (moreAll 32 (told (l .done)) (parts (r .result .code))) (textOf x)) (sym (drop-drop (r .result .size) (l .at) b))
+          ∙ sym (rest-next 32 (told (l .done)) (r .result .code) (textOf (drop (r .result .size) (drop (l .at) b))))
+          ∙ ap (rest 32 (told (l .done))) (sym t)
+          ∙ l .inv .3,
+    )
 
 returns-3 : tie.Need-returns-3 Inv-loop μ-loop
 returns-3 c =

@@ -1,10 +1,10 @@
 -- `unicode::form::put` meets its contract.
-use borrow.Author.Tests.{lt-ltb, le-ltb, le-leb, lt-leb, not-true, not-false}
-use mathlib.Core.Path.{_≡_, refl, sym, ap, _∙_}
+use borrow.Author.Tests.{not-true, not-false}
+use mathlib.Core.Path.{_≡_, _∙_}
 use native.Mathlib.Omega.{arith}
 use Rattle.unicode.proofs.FormLaws.{put-more, put-full, put-none, known-sound}
 use lib.ListN.{length, take}
-use Prim.Native.Nat.{ℕ, _≤_}
+use Prim.Native.Nat.{_≤_}
 use borrow.Author.Needs.{needs}
 use Rattle.unicode.proofs.form.put.Statement.{statement}
 use Rattle.unicode.proofs.form.put.Tie as tie

@@ -1,6 +1,6 @@
 -- `unicode::order::class` meets its contract.
 use borrow.Author.Needs.{needs}
-use mathlib.Core.Path.{_≡_, ap, sym, _∙_}
+use mathlib.Core.Path.{ap, _∙_}
 use Prim.Native.Nat.{ℕ, _/_}
 use borrow.Author.Tests.{lt-ltb, le-ltb}
 use Rattle.unicode.proofs.order.class.Statement.{statement}

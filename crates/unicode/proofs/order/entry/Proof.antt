@@ -1,13 +1,11 @@
 -- `unicode::order::entry` meets its contract.
 use borrow.Author.Needs.{needs}
 use mathlib.Core.Path.{_≡_, refl, ap, sym, _∙_}
-use mathlib.Core.Bool.{true, false, _||_}
 use Prim.Native.Nat.{ℕ, _+_, _-_, _≤_, _<_}
 use native.Mathlib.Omega.{arith}
 use lib.ListN.{getD}
 use borrow.Author.Tests.{lt-ltb, le-ltb}
 use Rattle.unicode.specs.Table.{table}
-use Rattle.unicode.specs.Utf8.{covers}
 use Rattle.unicode.specs.Canonical.{placeOf}
 use Rattle.unicode.proofs.Utf8Laws.{covered-low, covered-high}
 use Rattle.unicode.proofs.order.entry.Statement.{statement}

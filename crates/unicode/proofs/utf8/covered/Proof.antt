@@ -14,16 +14,18 @@ returns-2 c =
 returns-3 : tie.Need-returns-3
 returns-3 c =
     simp (
-    le-ltb (c .before .before .before .args .c) 0x180 (omega (arith, c .before .before .if1 .left)),
-    le-leb 0x300 (c .before .before .before .args .c) (omega (arith, c .before .if2 .left)),
-    le-ltb (c .before .before .before .args .c) 0x370 (omega (arith, c .if3 .taken)))
+      le-ltb (c .before .before .before .args .c) 0x180 (omega (arith, c .before .before .if1 .left)),
+      le-leb 0x300 (c .before .before .before .args .c) (omega (arith, c .before .if2 .left)),
+      le-ltb (c .before .before .before .args .c) 0x370 (omega (arith, c .if3 .taken)),
+    )
 
 returns-4 : tie.Need-returns-4
 returns-4 c =
     simp (
-    le-ltb (c .before .before .before .args .c) 0x180 (omega (arith, c .before .before .if1 .left)),
-    le-leb 0x300 (c .before .before .before .args .c) (omega (arith, c .before .if2 .left)),
-    lt-ltb (c .before .before .before .args .c) 0x370 (omega (arith, c .if3 .left)))
+      le-ltb (c .before .before .before .args .c) 0x180 (omega (arith, c .before .before .if1 .left)),
+      le-leb 0x300 (c .before .before .before .args .c) (omega (arith, c .before .if2 .left)),
+      lt-ltb (c .before .before .before .args .c) 0x370 (omega (arith, c .if3 .left)),
+    )
 
 pub covered-spec : {M : Type 1} → statement M
 covered-spec = tie.close (tie.spec returns returns-2 returns-3 returns-4)

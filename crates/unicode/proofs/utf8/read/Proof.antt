@@ -1,6 +1,6 @@
 -- `unicode::utf8::read` meets its contract.
-use borrow.Author.Tests.{lt-ltb, le-ltb, le-leb, lt-leb, not-true, not-false}
-use mathlib.Core.Path.{_≡_, refl, sym, ap, _∙_}
+use borrow.Author.Tests.{not-true, not-false}
+use mathlib.Core.Path.{sym, _∙_}
 use native.Mathlib.Omega.{arith}
 use Rattle.unicode.proofs.Utf8Laws.{pair-from, read-one, read-cut, read-bad, read-two}
 use borrow.Author.Needs.{needs}
