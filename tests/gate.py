@@ -18,6 +18,7 @@ import threading
 from collections import Counter
 from concurrent.futures import ThreadPoolExecutor
 
+import characters
 import declared
 import edits as must_fail
 import interface as c_interface
@@ -159,6 +160,11 @@ def documents():
             links += 1
     demand(links, "the documents have no link")
     return seen + links
+
+
+def unicode_table():
+    """Every entry of the table of crates/unicode, in the code and in the definitions, is as in Python's unicodedata, and in UnicodeData.txt if that is installed; no character below it has a mapping or a class, and none leads out of what is covered."""
+    return characters.compared(ROOT)
 
 
 def scripts(root, programs):
@@ -574,7 +580,7 @@ def runner():
 
 CHECKS = [
     *(prove_and_run, refused_for_a_fact, edits_say_where, counts, layout, nothing_foreign, assumptions_as_stated, trace, promises, documents),
-    *(second_program, kitchen_prints, small_stack, header, every_call, hosts, beside, faults, tool, first_command),
+    *(unicode_table, second_program, kitchen_prints, small_stack, header, every_call, hosts, beside, faults, tool, first_command),
     *(showroom, showroom_faults, page, runner, foolings),
 ]
 # Scripts that write nothing, in target/ neither: two of them are run at a time, after the others, the longest first.
