@@ -170,7 +170,7 @@ def unicode_table():
 def scripts(root, programs):
     """The scripts that print what a program has to print, by the program. Each program has one, and what they share is there."""
     script_of = {name: name.removeprefix("show_") for name in programs}
-    wanted = {*script_of.values(), "beside", "drawn", "layers", "library", "long", "reader", "rules"}
+    wanted = {*script_of.values(), "beside", "drawn", "layers", "library", "long", "names", "reader", "rules"}
     found = {path.stem for path in (root / "reference").glob("*.py")}
     demand(found == wanted, f"reference/ lacks {sorted(wanted - found)}, and has {sorted(found - wanted)} beyond what is known")
     return {name: root / "reference" / f"{stem}.py" for name, stem in script_of.items() if stem != name}
@@ -503,11 +503,12 @@ def beside():
 
 def faults():
     """Each mistake that the second program makes on purpose is found."""
-    for fault in range(1, 10):
+    planted = range(1, 17)
+    for fault in planted:
         printed = run([sys.executable, "-B", "reference/beside.py", built_library()[1], "--fault", str(fault)], status=1)
         demand(re.search(r"^the second program .*; after \d+ comparisons: ", printed), f"fault {fault}: {printed}")
         print(f"fault {fault}: {printed[:printed.index(': ')]}", flush=True)
-    return 9
+    return len(planted)
 
 
 def checks_of(script, parts=None):
