@@ -24,7 +24,7 @@ import unicodedata
 from collections import namedtuple
 
 # The number of the interface in include/kitchen.h. A library of another number is not used.
-VERSION = 4
+VERSION = 5
 
 # A kind of job: its first byte and word, its records and what sets are counted against, the limit of both counts, the
 # limit of the horizon if there is one, the bytes of a set, the sets of its head and those of a record.
