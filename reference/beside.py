@@ -24,7 +24,7 @@ from drawn import damaged, drawn_choice, drawn_fitting, drawn_name, full_choice,
 from drawn import small_choices, small_fittings, some, walk, wide_choice
 from library import Library, slices
 from long import LONG as LONG_SEARCHES
-from names import APART, COVERED, EQUAL, apart_by, as_bytes, drawn_search, equal_by, named_steps
+from names import APART, COVERED, EQUAL, apart_by, as_bytes, drawn_search, equal_by, last_of, named_steps
 from reader import CHOICE, CHOICES, FITTING, FITTINGS, LONG, NOTHING, A, Article, B, Choice, F, G, H, M, N, Refused
 from reader import counts, step, written
 from rules import FIELDS, Change, number, of
@@ -282,6 +282,7 @@ class Beside:
         if at is not None:
             self.tally[f"equal by {equal_by(names[at], wanted)}"] += 1
             self.tally["names found by over 32 bytes"] += len(wanted) > 32
+            self.tally["names found at 31 or 63"] += at in (31, 63)
             self.tally["the lowest of several equal names"] += any(rules.equal(name, wanted) for name in names[at + 1 :])
         for name in names[:at] if wanted else ():
             self.tally["pairs of unequal names"] += 1
@@ -565,11 +566,11 @@ def stated(beside):
 
 
 def named(beside):
-    """Drawn names, in files of either kind; each covered character and its decomposition, one by the other; and each string of two
-    bytes, beside the text that it is, or that a careless reader makes of it."""
+    """Drawn names, in files of either kind; the last name of a file that has as many as it can; each covered character and its
+    decomposition, one by the other; and each string of two bytes, beside the text that it is, or that a careless reader makes of it."""
     draw = random.Random(20261118)
-    for _ in range(12_500):
-        file, names, searched = drawn_search(draw)
+    drawn = [drawn_search(draw) for _ in range(12_500)] + [last_of(count, draw) for count in [32, 64] * 20]
+    for file, names, searched in drawn:
         for wanted in searched:
             beside.search(file, names, wanted)
     for character in COVERED:

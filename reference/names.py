@@ -73,9 +73,9 @@ def named_steps(names):
 
 
 def drawn_file(names, draw):
-    """A file of either kind, some of whose names have sets in front of them."""
+    """A file of either kind, some of whose names have sets in front of them. Over 32 names only a choice has."""
     sets = lambda count: [some(draw, 3, draw.choice([0, 0, 0.5])) for _ in range(count)]
-    if draw.random() < 0.5:
+    if len(names) <= 32 and draw.random() < 0.5:
         return written(Fitting(3, 1, {0}, {1}, [Step(*sets(3), name) for name in names]))
     return written(Choice(3, {0, 1}, [Article(*sets(1), set(), name) for name in names]))
 
@@ -160,6 +160,16 @@ def drawn_search(draw):
     drawn = drawn_names(draw)
     names = draw.choices([name for name in drawn if len(name) <= 32] or [b""], k=draw.randint(1, 4))
     return drawn_file(names, draw), names, draw.choices([*drawn, b""], k=8)
+
+
+def last_of(count, draw):
+    """A file of that many names, these names, and the last of them in other writings, to search for."""
+    texts = []
+    while len(texts) < count:
+        text = drawn_text(draw)
+        texts += [text] if len(text.encode()) <= 32 else []
+    names = [text.encode() for text in texts]
+    return drawn_file(names, draw), names, [form.encode() for form in writings(texts[-1], draw)]
 
 
 # What it shows
