@@ -37,11 +37,11 @@ CHECKS = {
     "header": 45,
     "every_call": 119,
     "hosts": 18,
-    "beside": 490_000,
+    "beside": 491_000,
     "faults": 16,
     "tool": 37_040,
     "first_command": 2,
-    "showroom": 97_000,
+    "showroom": 97_300,
     "showroom_faults": 22,
     "page": 21_580,
     "runner": 120,
@@ -81,7 +81,7 @@ SHOWROOM = {
     "next checks": 370,
     "bound checks": 630,
     "change checks": 8_750,
-    "module checks": 68_500,
+    "module checks": 68_800,
 }
 
 
@@ -99,11 +99,11 @@ KITCHEN_PRINTS = {
 
 # Calls of the C interface that are compared with the second program (`beside`).
 BESIDE = {
-    "comparisons": 490_000,
+    "comparisons": 491_000,
     "calls on stated files": 21_100,
     "two faults": 4_600,
     **by_number("refused", {1: 48_500, 2: 17_500, 3: 1_550, 4: 2_300, 5: 185, 6: 29_500, 7: 1_850, 8: 880}),
-    **by_number("refused", {9: 22_700, 10: 11_900, 11: 7_500, 12: 1_750, 13: 6_000, 14: 16_300, 15: 2_050, 16: 81_200}),
+    **by_number("refused", {9: 22_700, 10: 11_900, 11: 7_500, 12: 1_750, 13: 6_000, 14: 16_300, 15: 2_050, 16: 81_300}),
     **by_number("plans of", {0: 1_700, 1: 290, 2: 75, 3: 25, 4: 12, 5: 3, 6: 1, 7: 1, 9: 2, 10: 5, 11: 4, 12: 8, 13: 13, 14: 3, 15: 2, 16: 3}),
     "plans with step 31": 15,
     "passes that struck": 2_900,
@@ -130,8 +130,8 @@ BESIDE = {
     "fact layers with 31": 40,
     "round layers with 63": 35,
     "names given": 5_000,
-    "names found": 163_800,
-    "searches in names": 232_000,
+    "names found": 164_000,
+    "searches in names": 232_300,
     "searches for an empty name": 18_500,
     "searches for over 64 bytes": 470,
     "names found by over 32 bytes": 2_400,
@@ -151,7 +151,7 @@ BESIDE = {
     "covered characters": 496,
     "strings of two bytes": 65_536,
     "alike though not the same": 1_000,
-    "null slices": 53_200,
+    "null slices": 53_700,
     "long searches": 4,
     "save_order answered": 2_200,
     "save_wishes answered": 1_850,
