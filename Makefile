@@ -62,7 +62,7 @@ dist: all
 	@KITCHEN_PC_PREFIX='$${pcfiledir}/../..' $(MAKE) --no-print-directory -s install DESTDIR=$(folder) PREFIX= >/dev/null
 	@cp -R docs host jobs tools $(folder)
 	@cp README.md show $(folder)
-	@rm -f $(folder)/tools/library
+	@rm -f $(folder)/tools/library $(folder)/tools/unicode_table.py
 	@find $(folder) -name __pycache__ -prune -exec rm -rf {} +
 	@{ rt version && $(commit) && echo 'machine x86-64 Linux'; } >$(folder)/KIT
 	@cd $(folder) && find . '!' -type d '!' -name SHA256SUMS | LC_ALL=C sort | xargs sha256sum >SHA256SUMS

@@ -14,16 +14,17 @@ A job file is bytes; docs/RULES.md says how it is laid out, and include/kitchen.
 are Python sets of numbers. A `NoSelection(place)` and `NoPlan` are answers. `Refused(number, place)` is raised if a call
 is turned down, and `Unusable` if a job cannot be written or the library cannot be used.
 
-What is built, written and read here is plain Python and only tested; what `Library` answers is what the proved calls
-answered for these very bytes.
+What is built, written and read here, and whether two names are equal by `same_name`, is plain Python and only tested; what
+`Library` answers is what the proved calls answered for these very bytes.
 """
 
 import ctypes
 import pathlib
+import unicodedata
 from collections import namedtuple
 
 # The number of the interface in include/kitchen.h. A library of another number is not used.
-VERSION = 4
+VERSION = 5
 
 # A kind of job: its first byte and word, its records and what sets are counted against, the limit of both counts, the
 # limit of the horizon if there is one, the bytes of a set, the sets of its head and those of a record.
@@ -87,6 +88,30 @@ def as_bytes(given):
     if not isinstance(given, bytes):
         raise Unusable(f"expected bytes, found {type(given).__name__}")
     return given
+
+
+def is_covered(character):
+    """Whether names with this character are compared by their text."""
+    return character < "\u0180" or "\u0300" <= character <= "\u036f"
+
+
+def name_key(name):
+    """Bytes that are the same for equal names, and for no others.
+
+    A name that is UTF-8, with all characters below U+0180 or from U+0300 to U+036F, goes by its normalization form D, so it
+    makes no difference whether ü is one character, or u and a mark. Any other name goes by its own bytes.
+    """
+    name = named(name)
+    try:
+        text = name.decode()
+    except UnicodeDecodeError:
+        return name
+    return unicodedata.normalize("NFD", text).encode() if all(map(is_covered, text)) else name
+
+
+def same_name(a, b):
+    """Whether two names, as text or as bytes, are equal: the rule by which `Library.find` finds them."""
+    return name_key(a) == name_key(b)
 
 
 def article(wishes=(), clashes=(), name=b""):
@@ -451,7 +476,7 @@ class Library:
         return file[start : start + length]
 
     def find(self, file, name):
-        """The lowest article or step with this name, or None."""
+        """The lowest article or step whose name is equal to this one, or None: in another writing, too, as `same_name` says."""
         status, first, _ = self.call("find", file, named(name))
         if status == NO_NAME:
             return None

@@ -6,9 +6,10 @@
 It takes the files that are stated one by one, the examples of docs/RULES.md among them, with arguments of every sort; then all
 small files of a sort, drawn ones, wide ones, at the edge of the words, and damaged ones: cut at every place, with single bytes
 changed, lengthened, over their limits, with forbidden bits; and some whose plan is long looked for. What is saved is saved once
-more, and back. What falls short is tried on every selection. The same files come in every run. A difference is printed, and ends
-it with status 1; otherwise it prints how much was compared, and what of it mattered. --fault makes the second program err on
-purpose (FAULTS in rules.py): then a difference has to be found.
+more, and back. What falls short is tried on every selection. Names are searched for in other writings, and among names that are
+nearly the same. The same files come in every run. A difference is printed, and ends it with status 1; otherwise it prints how
+much was compared, and what of it mattered. --fault makes the second program err on purpose (FAULTS in rules.py): then a
+difference has to be found.
 """
 
 import argparse
@@ -16,12 +17,14 @@ import random
 import sys
 from collections import Counter
 from itertools import cycle, product
+from unicodedata import normalize
 
 import rules
 from drawn import damaged, drawn_choice, drawn_fitting, drawn_name, full_choice, full_fitting, over_limits
 from drawn import small_choices, small_fittings, some, walk, wide_choice
 from library import Library, slices
 from long import LONG as LONG_SEARCHES
+from names import APART, COVERED, EQUAL, apart_by, as_bytes, drawn_search, equal_by, last_of, named_steps
 from reader import CHOICE, CHOICES, FITTING, FITTINGS, LONG, NOTHING, A, Article, B, Choice, F, G, H, M, N, Refused
 from reader import counts, step, written
 from rules import FIELDS, Change, number, of
@@ -264,9 +267,28 @@ class Beside:
         self.same("name", (file, at), (0, (start, length)))
 
     def find(self, file, wanted):
+        """The number that has the name; None if it is found nowhere."""
         found, expected = self.answer(lambda i: (i, 0), rules.find, file, wanted)
         self.tally["names found"] += found is not None
         self.same("find", (file, wanted), expected)
+        return found
+
+    def search(self, file, names, wanted):
+        """Finds a name in a file that has these. Counts what made that one equal, and what kept those before it apart."""
+        at = self.find(file, wanted)
+        self.tally["searches in names"] += 1
+        self.tally["searches for an empty name"] += not wanted
+        self.tally["searches for over 64 bytes"] += len(wanted) > 64
+        if at is not None:
+            self.tally[f"equal by {equal_by(names[at], wanted)}"] += 1
+            self.tally["names found by over 32 bytes"] += len(wanted) > 32
+            self.tally["names found at 31 or 63"] += at in (31, 63)
+            self.tally["the lowest of several equal names"] += any(rules.equal(name, wanted) for name in names[at + 1 :])
+        for name in names[:at] if wanted else ():
+            self.tally["pairs of unequal names"] += 1
+            kept = apart_by(name, wanted)
+            if kept:
+                self.tally[f"kept apart by {kept}"] += 1
 
     def compare(self, first, second):
         found, expected = self.answer(lambda alike: (int(alike), 0), rules.compare, first, second)
@@ -504,8 +526,19 @@ class Beside:
 # The run
 
 
+def stated_names(beside):
+    """Names of which it is stated whether they are equal, searched for one by the other, both ways if both can be in a file."""
+    for pairs, answer in ((EQUAL, (0, (0, 0))), (APART, (16, (0, 0)))):
+        for pair in pairs:
+            one, other = map(as_bytes, pair)
+            for name, wanted in [(one, other), *([(other, one)] if len(other) <= 32 else [])]:
+                beside.same("find", (named_steps([name]), wanted), answer)
+                beside.search(named_steps([name, b"", name]), [name, b"", name], wanted)
+
+
 def stated(beside):
     """The files that are stated one by one, and some with a fault. Of the examples without a star, also what the rules say."""
+    stated_names(beside)
     cut, longer, too_many = A[:-1], A + b"\0", bytes([CHOICE, 65, 0]) + bytes(8)
     if len(A) != 46:
         raise Differ(f"A has {len(A)} bytes")
@@ -530,6 +563,27 @@ def stated(beside):
         for other in CHOICES + FITTINGS + faulty:
             beside.compare(file, other)
     beside.tally["calls on stated files"] = beside.tally["comparisons"]
+
+
+def named(beside):
+    """Drawn names, in files of either kind; the last name of a file that has as many as it can; each covered character and its
+    decomposition, one by the other; and each string of two bytes, beside the text that it is, or that a careless reader makes of it."""
+    draw = random.Random(20261118)
+    drawn = [drawn_search(draw) for _ in range(12_500)] + [last_of(count, draw) for count in [32, 64] * 20]
+    for file, names, searched in drawn:
+        for wanted in searched:
+            beside.search(file, names, wanted)
+    for character in COVERED:
+        pair = character.encode(), normalize("NFD", character).encode()
+        for name, wanted in (pair, pair[::-1]):
+            beside.search(named_steps([name]), [name], wanted)
+        beside.tally["covered characters"] += 1
+    for high, low in product(range(256), repeat=2):
+        pair = bytes([high, low])
+        text = normalize("NFD", pair.decode("utf-8", "ignore")).encode()
+        for names, wanted in (([text, pair], pair), ([pair, text], text)):
+            beside.search(named_steps(names), names, wanted)
+        beside.tally["strings of two bytes"] += 1
 
 
 def reached(beside):
@@ -584,6 +638,7 @@ def run(beside):
                 beside.reading(file)
     reached(beside)
     saved(beside)
+    named(beside)
     for file in LONG_SEARCHES.values():
         beside.plan(file, 16)
         beside.tally["long searches"] += 1

@@ -20,6 +20,17 @@ static const uint8_t A[] = {OF_A}, A_LONGER[] = {OF_A, 0};
 /* the same, where article 2 has the name "ab" */
 #define TWO_NAMED 5, EIGHT(3), 2, 'a', 'b'
 static const uint8_t A_NAMED[] = {A_WITH(3, ONE, TWO_NAMED)};
+/* articles with nothing but a name: 0 is "Büfett" with ü as one character, 5 the same with u and a mark, and 1 "Tür" with u and a mark;
+ * 2 is a with marks of two classes, U+0301 and U+0323, and 3 with two of one class, U+0301 and U+0300; 4 is U+212B, which is not covered,
+ * 6 is u and the first byte of a mark, which is not UTF-8, and 7 is U+0344 sixteen times */
+#define AS_ONE 0xC3, 0xBC
+#define AS_TWO 'u', 0xCC, 0x88
+#define BUFETT(u) 'B', u, 'f', 'e', 't', 't'
+#define FOUR_TIMES(...) __VA_ARGS__, __VA_ARGS__, __VA_ARGS__, __VA_ARGS__
+static const uint8_t NAMED[] = {67, 8, 0, EIGHT(0), 4, 7, BUFETT(AS_ONE), 4, 5, 'T', AS_TWO, 'r', 4, 5, 'a', 0xCC, 0x81, 0xCC, 0xA3,
+    4, 5, 'a', 0xCC, 0x81, 0xCC, 0x80, 4, 3, 0xE2, 0x84, 0xAB, 4, 8, BUFETT(AS_TWO), 4, 2, 'u', 0xCC, 4, 32, FOUR_TIMES(FOUR_TIMES(0xCD, 0x84))};
+/* a step with nothing but the name "Büfett", with u and a mark */
+static const uint8_t NAMED_STEP[] = {70, 1, 0, 0, FOUR(0), FOUR(0), 8, 8, BUFETT(AS_TWO)};
 /* the articles 0 with wish 0; 1 with wishes 0 and 1, clashing with 0; 2 with wish 2; order {0, 1, 2} */
 static const uint8_t B[] = {67, 3, 3, EIGHT(7), 1, EIGHT(1), 3, EIGHT(3), EIGHT(1), 1, EIGHT(4)};
 /* the articles 0 and 1 of A without the others: both are in one group, and the order {0, 1} falls short */
@@ -213,6 +224,21 @@ static int find(void)
     GIVES(kitchen_find(SLICE(A_NAMED), SLICE(BYTES('a')), out), KITCHEN_NO_NAME, 0, 0);
     GIVES(kitchen_find(SLICE(A_NAMED), NULL, 0, out), KITCHEN_NO_NAME, 0, 0);
     GIVES(kitchen_find(A_NAMED, sizeof A_NAMED - 1, SLICE(BYTES('a', 'b')), out), KITCHEN_ENDS_EARLY, 48, 0);
+    GIVES(kitchen_find(SLICE(NAMED), SLICE(BYTES(BUFETT(AS_ONE))), out), 0, 0, 0);
+    GIVES(kitchen_find(SLICE(NAMED), SLICE(BYTES(BUFETT(AS_TWO))), out), 0, 0, 0); /* the lowest, though 5 has these bytes */
+    GIVES(kitchen_find(SLICE(NAMED), SLICE(BYTES('T', AS_ONE, 'r')), out), 0, 1, 0);
+    GIVES(kitchen_find(SLICE(NAMED_STEP), SLICE(BYTES(BUFETT(AS_ONE))), out), 0, 0, 0);
+    GIVES(kitchen_find(SLICE(NAMED), SLICE(BYTES('a', 0xCC, 0xA3, 0xCC, 0x81)), out), 0, 2, 0);
+    GIVES(kitchen_find(SLICE(NAMED), SLICE(BYTES(0xC3, 0xA1, 0xCC, 0xA3)), out), 0, 2, 0);
+    GIVES(kitchen_find(SLICE(NAMED), SLICE(BYTES('a', 0xCC, 0x80, 0xCC, 0x81)), out), KITCHEN_NO_NAME, 0, 0); /* marks of one class */
+    GIVES(kitchen_find(SLICE(NAMED), SLICE(BYTES(0xC3, 0xA1, 0xCC, 0x80)), out), 0, 3, 0);
+    GIVES(kitchen_find(SLICE(NAMED), SLICE(BYTES(0xC3, 0x85)), out), KITCHEN_NO_NAME, 0, 0); /* U+00C5 is covered, and U+212B is not */
+    GIVES(kitchen_find(SLICE(NAMED), SLICE(BYTES(0xE2, 0x84, 0xAB)), out), 0, 4, 0);
+    GIVES(kitchen_find(SLICE(NAMED), SLICE(BYTES('u', 0xCC)), out), 0, 6, 0);
+    GIVES(kitchen_find(SLICE(NAMED), SLICE(BYTES('u')), out), KITCHEN_NO_NAME, 0, 0);
+    GIVES(kitchen_find(SLICE(NAMED), SLICE(BYTES(FOUR_TIMES(FOUR_TIMES(0xCC, 0x88, 0xCC, 0x81)))), out), 0, 7, 0); /* by 64 bytes */
+    GIVES(kitchen_find(SLICE(NAMED), SLICE(BYTES(FOUR_TIMES(FOUR_TIMES(0xCC, 0x88, 0xCC, 0x81)), 'a')), out), KITCHEN_NO_NAME, 0, 0);
+    GIVES(kitchen_find(SLICE(NAMED), NULL, 0, out), KITCHEN_NO_NAME, 0, 0);
     return seen;
 }
 

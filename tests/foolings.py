@@ -10,7 +10,9 @@ import shutil
 import subprocess
 import sys
 import tempfile
+import unicodedata
 
+import characters
 import declared
 import edits
 import gate
@@ -153,6 +155,137 @@ def deleted_scripts(folder):
         path.write_text(kept)
     (folder / "reference" / "stray.py").write_text("")
     found("a script of no program", "has ['stray']", gate.scripts, folder, programs)
+
+
+# ---- the table of characters
+
+# Of each wrong entry: what the table has, what is put in its place, and the character.
+WRONG_ENTRIES = {
+    "a compatibility mapping": ("0x00_000_132", "0x00_04a_049", "U+0132"),
+    "another class": ("0x00_000_34f", "0xe6_000_34f", "U+034F"),
+    "no mapping": ("0x00_308_075", "0x00_000_0fc", "U+00FC"),
+    "half a mapping": ("0xe6_301_308", "0xe6_000_308", "U+0344"),
+    "a mapping of another character": ("0x00_30a_041", "0x00_30a_061", "U+00C5"),
+}
+
+
+def database(changed=()):
+    """A text as UnicodeData.txt, with what Python's data have; of some characters another pair of mapping and class, or no line for None."""
+    lines = []
+    for code in range(0x380):
+        fields = dict(changed).get(code, (unicodedata.decomposition(chr(code)), unicodedata.combining(chr(code))))
+        lines += [f"{code:04X};NAME;Lo;{fields[1]};L;{fields[0]};;;;N;;;;;\n"] if fields else []
+    return "".join(lines)
+
+
+def compared(folder):
+    """The check of the table, without what it prints. A file UnicodeData.txt in that folder is taken for the one that is installed."""
+    with contextlib.redirect_stdout(io.StringIO()):
+        characters.compared(folder, folder / "UnicodeData.txt")
+
+
+def character_table(folder):
+    """A table that is wrong in both files is one that no proof can refuse."""
+    for name in (*(part.path for part in characters.table.PARTS), "tools/unicode_table.py"):
+        (folder / name).parent.mkdir(parents=True)
+        shutil.copy(HERE / name, folder / name)
+    passes("the table", compared, folder)
+    code, definitions = (folder / part.path for part in characters.table.PARTS)
+    for label, (old, new, character) in WRONG_ENTRIES.items():
+        words = [f"{character} in {part.path} is {new}, and not {old} (by Python's" for part in characters.table.PARTS]
+        with planted(code, old, new):
+            found(f"{label} in the code", words[0], compared, folder)
+            with planted(definitions, old, new):
+                found(f"{label} in both files", f"{words[0]} unicodedata {unicodedata.unidata_version}); {words[1]}", compared, folder)
+        with planted(definitions, old, new):
+            found(f"{label} in the definitions", words[1], compared, folder)
+    for part, comment in zip(characters.table.PARTS, ("//", "--")):
+        marks(folder, part, comment)
+    databases(folder)
+    written_tables(folder)
+
+
+def marks(folder, part, comment):
+    """Entries that are not where the script and the check look, and such that are none."""
+    path, one = folder / part.path, f"0x00_000_132{part.sign}"
+    outside = "expected the marks right below"
+    for label, old, new, words in (
+        ("an entry missing", one, "", " has 303 entries, and not 304"),
+        ("an entry too many", one, f"{one} {one}", " has 305 entries, and not 304"),
+        ("an entry in a comment", one, f"{comment} {one}\n   ", f": '{comment}' between the marks is no entry"),
+        ("an entry that is computed", one, f"0x00_000_131 + 1{part.sign}", ": '0x00_000_131' between the marks is no entry"),
+        ("an entry above the marks", f"{part.opens}\n", f"{part.opens}\n    {one}\n", f": {outside}"),
+        ("an entry below the marks", "END TABLE\n", f"END TABLE\n    {one}\n", f": {outside}"),
+        ("no first mark", "BEGIN TABLE", "THE TABLE", ": expected one line with BEGIN TABLE"),
+        ("two last marks", "END TABLE\n", f"END TABLE\n    {comment} END TABLE\n", ": expected one line with BEGIN TABLE"),
+    ):
+        with planted(path, old, new):
+            found(f"{label}, {part.path}", part.path + words, compared, folder)
+    kept = path.read_text()
+    path.unlink()
+    found(f"without {part.path}", f"{part.path}: No such file", compared, folder)
+    path.write_text(kept)
+
+
+def databases(folder):
+    """What is installed is looked at, and has to be what it says; what is covered leads nowhere else."""
+    installed = folder / "UnicodeData.txt"
+    installed.write_text(database())
+    passes("the same data, installed", compared, folder)
+    for label, text, words in (
+        ("another mapping", database({0x132: ("0049 004A", 0)}), "U+0132 in crates/unicode/src/table.rt is 0x00_000_132, and not 0x00_04a_049 (by /"),
+        ("another class", database({0x34F: ("", 230)}), "U+034F in crates/unicode/specs/Table.antt is 0x00_000_34f, and not 0xe6_000_34f (by /"),
+        ("a character missing", database({0x344: None}), "UnicodeData.txt: U+0344 is missing"),
+        ("a character there twice", database() + "0041;NAME;Lo;0;L;;;;;N;;;;;\n", "UnicodeData.txt: line 897 has U+0041 once more"),
+    ):
+        installed.write_text(text)
+        found(f"{label}, installed", words, compared, folder)
+    installed.unlink()
+    entries = characters.table.of_python()
+    passes("what is covered", characters.complete, entries)
+    for label, old, new, words in (
+        ("no entry", "0x00_300_041", "0x00_300_180", "U+00C0 leads to a character that has no entry"),
+        ("an entry that leads further", "0x00_300_041", "0x00_300_0c1", "U+00C0 leads to a character that has no entry, or"),
+        ("half an entry", "0x00_300_041", "0x00_000_041", "U+00C0 is not its full decomposition"),
+    ):
+        found(f"a mapping to {label}", words, characters.complete, [new if entry == old else entry for entry in entries])
+
+
+def written_tables(folder):
+    """The script writes both files as they are, and writes nothing if FILE or a file of the table is not as it has to be."""
+    text, script = folder / "data", folder / "tools" / "unicode_table.py"
+    paths = [folder / part.path for part in characters.table.PARTS]
+    good, there = database(), [path.read_text() for path in paths]
+    wrong = [changed(each, "0x00_000_132", "0x00_04a_049") for each in there]
+
+    def told(before, *options):
+        """Status and output of the script, and the files afterwards."""
+        for path, each in zip(paths, before):
+            path.write_text(each)
+        done = subprocess.run([sys.executable, "-B", script, text, *options], stdin=subprocess.DEVNULL, capture_output=True, text=True)
+        return done.returncode, done.stdout + done.stderr, [path.read_text() for path in paths]
+
+    text.write_text(good)
+    check(told(wrong) == (0, "304 entries are written into both files\n", there), "the script writes both files")
+    check(told(there, "--compare") == (0, "304 entries are the same in both files\n", there), "the script compares both files")
+    status, printed, left = told(wrong, "--compare")
+    check((status, left) == (1, wrong) and printed.count("U+0132 in crates/unicode/") == 2, f"the script finds what differs: {printed}")
+    for label, given, before, words in (
+        ("no line of the file", "junk\n" + good, there, "data: line 1 is no line of UnicodeData.txt"),
+        ("a line with a field less", good.replace(";;;;N;;;;;\n", ";;;;N;;;;\n", 1), there, "data: line 1 is no line"),
+        ("a mapping that is none", database({0xC0: ("0041+0300", 0)}), there, "data: line 193 is no line"),
+        ("an empty file", "", there, "data: U+00C0 is missing"),
+        ("a mapping of three", database({0xC0: ("0041 0300 0301", 0)}), there, "data: U+00C0 has the mapping 0041 0300 0301"),
+        ("a mapping that does not fit", database({0xC5: ("212B", 0)}), there, "data: U+00C5 has the mapping 212B"),
+        ("a class that does not fit", database({0x300: ("", 256)}), there, "data: U+0300 has the class 256"),
+        ("no mark", good, [there[0], there[1].replace("END TABLE", "")], "Table.antt: expected one line with BEGIN TABLE"),
+    ):
+        text.write_text(given)
+        for options in ((), ("--compare",)):
+            status, printed, left = told(before, *options)
+            check((status, left) == (2, before) and words in printed and printed.count("\n") == 1, f"the script, {label}: {status}, {printed}")
+    text.unlink()
+    check(told(there)[0] == 2 and "data: No such file" in told(there)[1], "the script, without a file")
 
 
 # ---- must-fail edits
@@ -404,7 +537,7 @@ def verdicts():
 def main():
     for part in (logs, least_counts, verdicts):
         part()
-    for parts in ((headers,), (every_call,), (deleted_scripts,), (edit_files,), (declared_names, architecture, promises)):
+    for parts in ((headers,), (every_call,), (deleted_scripts,), (character_table,), (edit_files,), (declared_names, architecture, promises)):
         with tempfile.TemporaryDirectory() as folder:
             for part in parts:
                 part(pathlib.Path(folder))

@@ -18,6 +18,7 @@ import threading
 from collections import Counter
 from concurrent.futures import ThreadPoolExecutor
 
+import characters
 import declared
 import edits as must_fail
 import interface as c_interface
@@ -161,10 +162,15 @@ def documents():
     return seen + links
 
 
+def unicode_table():
+    """Every entry of the table of crates/unicode, in the code and in the definitions, is as in Python's unicodedata, and in UnicodeData.txt if that is installed; no character below it has a mapping or a class, and none leads out of what is covered."""
+    return characters.compared(ROOT)
+
+
 def scripts(root, programs):
     """The scripts that print what a program has to print, by the program. Each program has one, and what they share is there."""
     script_of = {name: name.removeprefix("show_") for name in programs}
-    wanted = {*script_of.values(), "beside", "drawn", "layers", "library", "long", "reader", "rules"}
+    wanted = {*script_of.values(), "beside", "drawn", "layers", "library", "long", "names", "reader", "rules"}
     found = {path.stem for path in (root / "reference").glob("*.py")}
     demand(found == wanted, f"reference/ lacks {sorted(wanted - found)}, and has {sorted(found - wanted)} beyond what is known")
     return {name: root / "reference" / f"{stem}.py" for name, stem in script_of.items() if stem != name}
@@ -497,11 +503,12 @@ def beside():
 
 def faults():
     """Each mistake that the second program makes on purpose is found."""
-    for fault in range(1, 10):
+    planted = range(1, 17)
+    for fault in planted:
         printed = run([sys.executable, "-B", "reference/beside.py", built_library()[1], "--fault", str(fault)], status=1)
         demand(re.search(r"^the second program .*; after \d+ comparisons: ", printed), f"fault {fault}: {printed}")
         print(f"fault {fault}: {printed[:printed.index(': ')]}", flush=True)
-    return 9
+    return len(planted)
 
 
 def checks_of(script, parts=None):
@@ -574,7 +581,7 @@ def runner():
 
 CHECKS = [
     *(prove_and_run, refused_for_a_fact, edits_say_where, counts, layout, nothing_foreign, assumptions_as_stated, trace, promises, documents),
-    *(second_program, kitchen_prints, small_stack, header, every_call, hosts, beside, faults, tool, first_command),
+    *(unicode_table, second_program, kitchen_prints, small_stack, header, every_call, hosts, beside, faults, tool, first_command),
     *(showroom, showroom_faults, page, runner, foolings),
 ]
 # Scripts that write nothing, in target/ neither: two of them are run at a time, after the others, the longest first.

@@ -120,8 +120,9 @@ class Copy:
             path = self.root / name
             path.parent.mkdir(parents=True, exist_ok=True)
             path.write_text(text)
-        (self.root / "tests").mkdir()
-        for path in (HERE / "test", HERE / "bench", *sorted((HERE / "tests").glob("*.py"))):
+        for name in ("tests", "tools"):
+            (self.root / name).mkdir()
+        for path in (HERE / "test", HERE / "bench", HERE / "tools" / "unicode_table.py", *sorted((HERE / "tests").glob("*.py"))):
             shutil.copy(path, self.root / path.relative_to(HERE))
         (self.root / "tests" / "least.py").write_text('CHECKS = {"prove_and_run": 3, "leaves_the_tree_clean": 1}\n')
         self.tools.mkdir()

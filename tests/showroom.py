@@ -32,10 +32,11 @@ sys.path.append(str(ROOT / "reference"))
 
 import drawn as draws  # noqa: E402
 import kitchen  # noqa: E402
+import names as namings  # noqa: E402
 import reader  # noqa: E402
 import rules  # noqa: E402
 import tool  # noqa: E402
-from showroom import advising, asking, changing, commands, telling  # noqa: E402
+from showroom import advising, asking, changing, commands, telling, texts  # noqa: E402
 from showroom import rules as trying  # noqa: E402
 from showroom.changing import Change  # noqa: E402
 from showroom.files import job_text  # noqa: E402
@@ -396,7 +397,7 @@ def larder_in(folder):
     return path
 
 
-@section("statuses", "asked", "misused", "unwritable", "lines of json", "orders", "from standard input", "advised")
+@section("statuses", "asked", "misused", "unwritable", "lines of json", "orders", "other keyboards", "from standard input", "advised")
 def statuses(tally, folder):
     faulty, missing, short = folder / "faulty.txt", folder / "missing.txt", folder / "short.txt"
     larder = larder_in(folder)
@@ -409,6 +410,7 @@ def statuses(tally, folder):
     advise_statuses(tally, faulty, missing, short, larder)
     json_lines(tally, faulty, missing, short, larder)
     orders(tally, folder)
+    other_keyboards(tally, folder)
 
 
 def ask_statuses(tally, faulty, missing, short, larder):
@@ -557,6 +559,23 @@ def orders(tally, folder):
         tally["orders"] += 1
     status, output, errors = called("ask", "--order", "bogus", sample("kitchen"))
     check(status == 1 and not output and "--order" in errors and "bogus" in errors, f"an unknown wish: {errors}")
+
+
+def other_keyboards(tally, folder):
+    """A wish and a clash in another writing are told as if they were in the same; another name is not found."""
+    path = folder / "keyboards.txt"
+    for one, pairs in ((True, tool.ONE_NAME), (False, tool.TWO_NAMES)):
+        for name, other in pairs:
+            text = f"choice\nwishes: {name}, x\norder: {name}\narticle {name}\nwishes: x\narticle Y\nwishes: {name}\nclashes: %s\n"
+            path.write_text(text % name)
+            same = called("ask", path), called("advise", path)
+            check(same[0][0] == 0 and "A kitchen of 1 article " in same[0][1], f"{name!r}: {same[0]}")
+            path.write_text(text % other)
+            found = called("ask", "--order", other, path), called("advise", "--order", other, path)
+            for (status, output, errors), expected in zip(found, same):
+                told = (status, output, errors) == expected if one else status == 1 and tells_nothing(output) and "is named" in errors
+                check(told, f"{name!r} by {other!r}: {status}\n{output}{errors}")
+            tally["other keyboards"] += 1
 
 
 # ---- a stand-in for kitchen
@@ -1523,7 +1542,16 @@ class Beside:
             start, length = rules.name(file, number)
             self.same(f"name {number} {file.hex()}", lambda: self.ours.name(file, number), lambda: file[start : start + length])
         for name in names:
-            self.same(f"find {name} {file.hex()}", lambda: self.ours.find(file, name), lambda: rules.find(file, name))
+            self.find(file, name)
+
+    def find(self, file, name):
+        """The name may be text."""
+        second = lambda: rules.find(file, namings.as_bytes(name))
+        return self.same(f"find {name} {file.hex()}", lambda: self.ours.find(file, name), second)
+
+    def same_name(self, a, b):
+        second = lambda: rules.equal(namings.as_bytes(a), namings.as_bytes(b))
+        return self.same(f"same_name {a!r} {b!r}", lambda: kitchen.same_name(a, b), second)
 
     def alike(self, a, b):
         self.same(f"alike {a.hex()} {b.hex()}", lambda: self.ours.alike(a, b), lambda: rules.compare(a, b))
@@ -1568,7 +1596,7 @@ class Beside:
 
 @section(
     "module", "read", "choose", "pass", "bound", "partition", "selections", "plan", "fact", "round", "name", "find", "alike",
-    "save_order", "save_wishes", "save_clashes", "save_name", "unusable", "built", "answers NoSelection", "answers NoPlan",
+    "same_name", "equal and found", "unequal", "found by other bytes", "the lowest of several", "save_order", "save_wishes", "save_clashes", "save_name", "unusable", "built", "answers NoSelection", "answers NoPlan",
     "answers None", "goal 0 falls short", "goal 1 falls short", *(f"none of {count} falls short" for count in range(3)),
     "passes that fall short", "passes that do not fall short",
     *(f"refused {number}" for number in range(1, 14))
@@ -1586,6 +1614,8 @@ def module(tally, folder):
                 beside.each(file)
     for job in [*(draws.drawn_choice(draw) for _ in range(150)), draws.full_choice()]:
         save_calls(beside, reader.written(job), draw)
+    for _ in range(400):
+        name_calls(beside, draw)
     past_the_words(tally, beside.ours)
     built(tally, draw)
     shown_in_the_module(tally)
@@ -1637,6 +1667,21 @@ def fitting_calls(beside, file, draw):
     beside.names(file, range(len(job.steps) + 1), [step.name for step in job.steps] + [b"no such"])
 
 
+def name_calls(beside, draw):
+    """Names in other writings, as bytes or as text: what is found is the first of those that are equal by `same_name`."""
+    file, names, searched = namings.drawn_search(draw)
+    beside.names(file, range(len(names) + 1), [])
+    for wanted in searched:
+        text = namings.text_of(wanted)
+        given = draw.choice([wanted, wanted if text is None else text])
+        equals = [number for number, name in enumerate(names) if beside.same_name(name, given)]
+        at = beside.find(file, given)
+        equal(at, min(equals, default=None) if wanted else None, f"find {given!r} by same_name in {file.hex()}")
+        beside.tally["unequal" if at is None else "equal and found"] += 1
+        beside.tally["found by other bytes"] += at is not None and names[at] != wanted
+        beside.tally["the lowest of several"] += at is not None and len(equals) > 1
+
+
 def unusable(action):
     """Whether it is turned down as not usable."""
     try:
@@ -1674,6 +1719,8 @@ def past_the_words(tally, library):
         "a number as the second file": lambda: library.alike(a, 7),
         "a number as a named file": lambda: library.name(7, 0),
         "a number as a name": lambda: library.find(a, 5),
+        "a number as one of two names": lambda: kitchen.same_name("a", 5),
+        "an array as one of two names": lambda: kitchen.same_name(bytearray(b"a"), b"a"),
         "an order to save": lambda: library.save_order(a, {64}),
         "wishes to save": lambda: library.save_wishes(a, 1, {0, 64}),
         "clashes to save": lambda: library.save_clashes(a, 1, {0, 64}),
@@ -1793,6 +1840,9 @@ FAULTS = {
          {place: telling.NO_KITCHEN_AT[1 - place] for place in (0, 1)}, "drawn"),
     18: ("the place of 14 is not tried", asking, "try_place", lambda job, place: None, "stand_in"),
     19: ("what the library says of the bound is not tried", commands, "bound", untried_bound, "bound"),
+    20: ("names are the same by their bytes only", kitchen, "name_key", kitchen.named, "module"),
+    21: ("names are the same by their form, covered or not", kitchen, "is_covered", lambda character: True, "module"),
+    22: ("a list finds names by their bytes only", texts, "name_key", kitchen.named, "statuses"),
 }  # fmt: skip
 
 

@@ -28,6 +28,7 @@ sys.path.append(str(ROOT / "reference"))
 import _ctypes  # noqa: E402
 import drawn  # noqa: E402
 import kitchen  # noqa: E402
+import names as namings  # noqa: E402
 import reader as reference  # noqa: E402
 import rules as second  # noqa: E402
 from showroom import asking, changing, commands, files, guide, reasons, rules, telling, texts, words  # noqa: E402
@@ -418,24 +419,74 @@ def large_texts():
 # ---- one name, two keyboards; blanks of other sorts
 
 ONE, TWO = unicodedata.normalize("NFC", "Tür für Öl"), unicodedata.normalize("NFD", "Tür für Öl")
+# One name, as it is written in a text: by one character or two, with marks of two classes in either order, by the bytes of UTF-8.
+ONE_NAME = [
+    (ONE, TWO),
+    ("a\u0301\u0323", "a\u0323\u0301"),
+    ("\u00e1\u0323", "a\u0323\u0301"),
+    ("\u0344" * 8, "\u0308\u0301" * 8),
+    ("Büfett", '"Bu\\xCC\\x88fett"'),
+]
+# Two names: marks of one class, with a starter between marks, a character that is not covered, bytes that are not UTF-8, and what a
+# compatibility mapping or capitals would make one.
+TWO_NAMES = [
+    ("a\u0301\u0300", "a\u0300\u0301"),
+    ("\u00e1\u0300", "\u00e0\u0301"),
+    ("a\u0301\u034f\u0323", "a\u0323\u034f\u0301"),
+    ("\u0439", "\u0438\u0306"),
+    ("\u212b", "\u00c5"),
+    ("s\u0323\u0307", "\u1e69"),
+    (f"{ONE} €", f"{TWO} €"),
+    ("ü", '"\\xFC"'),
+    ("u", '"u\\xCC"'),
+    ("A", '"\\xC1\\x81"'),
+    ("\u0132", "IJ"),
+    ("ü", "Ü"),
+]
+
+
+def names_of(*texts_of_names):
+    """The bytes of names that are written so in a text."""
+    return [record.name for record in kitchen.read(written(CHOICE + "".join(f"article {name}\n" for name in texts_of_names))).records]
+
+
+def one_name(a, b):
+    """A list finds by b what is named a; both are not allowed as wishes, and are a warning as articles."""
+    text = f"choice\nwishes: {a}, x\norder: {b}\narticle {b}\nwishes: {b}\narticle\nwishes: x\nclashes: {a}\n"
+    numbers = f"choice\nwishes: {a}, x\norder: #0\narticle {b}\nwishes: #0\narticle\nwishes: x\nclashes: #0\n"
+    equal(written(text), written(numbers), "wishes and articles by the other keyboard")
+    equal(kitchen.read(written(text)).records[0].name, names_of(b)[0], "the bytes are those that were typed")
+    equal(written(text.replace(f"order: {b}", "order: x"), b), written(numbers), "--order by the other keyboard")
+    text = f"fitting\nhorizon: 1\nfacts: x, {a}\nstart: {b}\ngoal: {b}\nstep {b}\nneeds: {b}\ngives: {b}\ntakes: {b}\n"
+    equal(written(text), written(text.replace(f": {b}", ": #1")), "facts by the other keyboard")
+    faults = faults_of(f"choice\nwishes: {a}, {b}\norder:\n")
+    check(len(faults) == 1 and faults[0][0] == 2 and "two wishes are named" in faults[0][1], f"two wishes: {faults}")
+    faults = faults_of(f"{CHOICE}article {a}\narticle {b}\narticle\nclashes: {a}\n")
+    check(len(faults) == 1 and faults[0][0] == 7 and "2 articles are named" in faults[0][1], f"two articles: {faults}")
+    twice = f"{CHOICE}article {a}\nwishes: a\narticle {b}\nwishes: a\narticle\nwishes: a\nclashes: #1\n"
+    equal([line for line, _ in texts.stated(twice.encode()).warnings], [6], "two articles are a warning")
+    check(kitchen.same_name(*names_of(a, b)), f"{a} and {b} are one name")
+
+
+def two_names(a, b):
+    """A list finds each of the two by itself, and neither by the other; there may be both."""
+    text = f"choice\nwishes: {a}, {b}\norder: {b}\narticle {a}\nwishes: {a}\narticle {b}\nwishes: {b}\narticle\nwishes: {a}\nclashes: {b}\n"
+    numbers = f"choice\nwishes: x, y\norder: #1\narticle {a}\nwishes: #0\narticle {b}\nwishes: #1\narticle\nwishes: #0\nclashes: #1\n"
+    equal(written(text), written(numbers), f"{a} and {b}, two wishes and two articles")
+    equal(written(text, a), written(numbers, "x"), f"{a} and {b}, --order")
+    equal(texts.stated(text.encode()).warnings, [], f"{a} and {b} are no warning")
+    equal(written(text_of(written(text)).decode()), written(text), f"{a} and {b}, there and back")
+    for text in (f"choice\nwishes: {a}\norder: {b}\n", f"fitting\nhorizon: 1\nfacts: {a}\nstart:\ngoal: {b}\n"):
+        faults = faults_of(text)
+        check(len(faults) == 1 and " is named " in faults[0][1], f"{a} is not found by {b}: {faults}")
+    check(not kitchen.same_name(*names_of(a, b)), f"{a} and {b} are two names")
 
 
 def keyboards(folder):
-    check(ONE != TWO, "two ways to type a name")
-    for a, b in ((ONE, TWO), (TWO, ONE)):
-        text = f"choice\nwishes: {a}, x\norder: {b}\narticle {b}\nwishes: {b}\narticle\nwishes: x\nclashes: {a}\n"
-        numbers = f"choice\nwishes: {a}, x\norder: #0\narticle {b}\nwishes: #0\narticle\nwishes: x\nclashes: #0\n"
-        equal(written(text), written(numbers), "wishes and articles by the other keyboard")
-        equal(kitchen.read(written(text)).records[0].name, b.encode(), "the bytes are those that were typed")
-        equal(written(text.replace(f"order: {b}", "order: x"), b), written(numbers), "--order by the other keyboard")
-        text = f"fitting\nhorizon: 1\nfacts: x, {a}\nstart: {b}\ngoal: {b}\nstep {b}\nneeds: {b}\ngives: {b}\ntakes: {b}\n"
-        equal(written(text), written(text.replace(f": {b}", ": #1")), "facts by the other keyboard")
-        faults = faults_of(f"choice\nwishes: {a}, {b}\norder:\n")
-        check(len(faults) == 1 and faults[0][0] == 2 and "two wishes are named" in faults[0][1], f"two wishes: {faults}")
-        faults = faults_of(f"{CHOICE}article {a}\narticle {b}\narticle\nclashes: {a}\n")
-        check(len(faults) == 1 and faults[0][0] == 7 and "2 articles are named" in faults[0][1], f"two articles: {faults}")
-        twice = f"{CHOICE}article {a}\nwishes: a\narticle {b}\nwishes: a\narticle\nwishes: a\nclashes: #1\n"
-        equal([line for line, _ in texts.stated(twice.encode()).warnings], [6], "two articles are a warning")
+    for names, test in ((ONE_NAME, one_name), (TWO_NAMES, two_names)):
+        for a, b in names:
+            test(a, b)
+            test(b, a)
     articles = [reference.Article({0}, set(), ONE.encode()), reference.Article({0}, {0}, TWO.encode())]
     file = reference.written(reference.Choice(1, {0}, [*articles, reference.Article({0}, {0, 1}, b"x")]))
     check("clashes: #0\n" in text_of(file).decode() and "clashes: #0, #1\n" in text_of(file).decode(), "both by number")
@@ -445,6 +496,34 @@ def keyboards(folder):
     path = folder / "keyboards.txt"
     path.write_text(f"choice\nwishes: {ONE}\norder:\narticle\nwishes: {ONE}\n")
     equal(quick("write", path, "--order", TWO), (0, written(path.read_text(), ONE), ""), "--order from the other keyboard")
+    same_looks()
+
+
+def same_looks():
+    """Names that look the same and are not equal have their numbers in a sentence, and a fault says why one is not found."""
+    names = ["\u0439\u043e\u0434", "\u0438\u0306\u043e\u0434"]
+    job = kitchen.choice(0, (), [kitchen.article(name=name) for name in names])
+    equal(words.names(job, {0, 1}), [f"{name} (article {number})" for number, name in enumerate(names)], "they look the same in a sentence")
+    ((line, message),) = faults_of(f"choice\nwishes: {names[0]}\norder: {names[1]}\n")
+    check(line == 3 and f'(near: "{names[0]}", in other characters)' in message, f"a name that looks the same: {message}")
+    ((_, message),) = faults_of("choice\nwishes: Tür\norder: Tor\n")
+    check(message.endswith('(near: "Tür")'), f"a name that is nearly the same: {message}")
+
+
+def names_by_the_second_program():
+    """Whether names are equal is what the second program says, of names that come of one text; as text and as bytes."""
+    draw = random.Random(7)
+    for expected, pairs in ((True, namings.EQUAL), (False, namings.APART)):
+        for a, b in pairs:
+            equal((kitchen.same_name(a, b), kitchen.same_name(b, a)), (expected, expected), f"{a!r} and {b!r}")
+    seen = {True: 0, False: 0}
+    for _ in range(500):
+        drawn_names = namings.drawn_names(draw)
+        for a, b in zip(draw.choices(drawn_names, k=20), draw.choices(drawn_names, k=20)):
+            found = kitchen.same_name(a, b)
+            equal(found, second.equal(a, b), f"{a!r} and {b!r}")
+            seen[found] += a != b
+    check(min(seen.values()) > 300, f"equal names of other bytes, and unequal ones: {seen}")
 
 
 def blanks():
@@ -668,7 +747,7 @@ def there_and_back():
         shown = files.job_table(job)
         check(all(line.isprintable() for line in shown.split("\n")), f"what is shown prints: {shown!r}")
         called = words.names(job, range(len(job.records)))
-        check(all(map(str.isprintable, called)) and len(set(map(words.alike, map(str.encode, called)))) == len(called), f"{called}")
+        check(all(map(str.isprintable, called)) and len(set(map(words.look, map(str.encode, called)))) == len(called), f"{called}")
 
 
 # ---- words
@@ -1846,7 +1925,7 @@ def main():
         folder = pathlib.Path(name).resolve()
         for part in (samples, texts_with_faults, odd_texts, keyboards, warnings, orders, files_refused, explanations, changes):
             tried(part, folder)
-        for part in (texts_in_order, comments, large_texts, blanks, there_and_back):
+        for part in (texts_in_order, comments, large_texts, blanks, names_by_the_second_program, there_and_back):
             tried(part)
         for part in (host_jobs, host_limits, answers, printed_junk, none_told, bounds, choice_rules, plan_rules):
             tried(part)

@@ -66,7 +66,10 @@ How a text is written:
 - An article names those above it that it clashes with: a clash is written once, at the later of the two.
 - A name with `#`, a quotation mark, a character that does not print, or a blank at its end is quoted, and in a list
   also one with a comma: "Oven, 60 cm". Inside, \\" and \\\\ stand for the two characters themselves, and \\xE4 for the
-  byte E4. A letter with a mark may be typed as one character or as two: a list finds the name either way.
+  byte E4.
+- A letter with a mark, such as ü, may be typed as one character or as two: a list finds the name either way, if all
+  characters of the name are below U+0180 or from U+0300 to U+036F. A name with any other character, such as й or €, goes
+  by its bytes.
 - A comment is a line of its own that begins with `#` and has no digit after it.
 
 How a job file is changed:

@@ -111,7 +111,9 @@ REASONS = {
     16: (
         "that name belongs to no article and to no step",
         None,
-        "The file is in order. Names are compared byte by byte, so capitals and blanks count.",
+        "The file is in order. Capitals and blanks of a name count. Whether a letter with a mark, such as ü, is one character "
+        "or two makes no difference if the whole name is UTF-8 and has only characters below U+0180 and from U+0300 to "
+        "U+036F; of any other name each byte counts.",
     ),
 }
 

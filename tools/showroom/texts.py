@@ -4,8 +4,8 @@ import difflib
 import re
 from collections import namedtuple
 
-from kitchen import CHOICE, FITTING, KINDS, LONGEST_NAME, Job, Record
-from showroom.words import alike, brief, cited, decoded, series
+from kitchen import CHOICE, FITTING, KINDS, LONGEST_NAME, Job, Record, name_key
+from showroom.words import brief, cited, look, series
 
 MOST_FAULTS = 20  # that are shown at once
 LONGEST_HINT = 100  # a longer word is not compared with the names that there are
@@ -80,24 +80,24 @@ def split(text):
 
 
 class Names:
-    """The names that a list may refer to, by their numbers; None means a faulty one."""
+    """The names that a list may refer to, by their numbers; None means a faulty one. Equal names are one, as for the call `find`."""
 
     def __init__(self, names):
         self.names, self.numbers = names, {}
         for number, name in enumerate(names):
             if name:
-                self.numbers.setdefault(alike(name), []).append(number)
+                self.numbers.setdefault(name_key(name), []).append(number)
 
     def __len__(self):
         return len(self.names)
 
     def found(self, name):
-        return self.numbers.get(alike(name), [])
+        return self.numbers.get(name_key(name), [])
 
     def near(self, name, bound):
         """A name below the bound that is nearly this one."""
-        known = {decoded(other).casefold(): other for other in self.names[:bound] if other}
-        near = difflib.get_close_matches(decoded(name).casefold(), known, 1)
+        known = {look(other).casefold(): other for other in self.names[:bound] if other}
+        near = difflib.get_close_matches(look(name).casefold(), known, 1)
         return known[near[0]] if near else None
 
 
@@ -148,7 +148,8 @@ class Listing:
             return self.fault(line, f"{len(numbers)} {several} are named {cited(name)}; expected a number, {which}")
         worthwhile = len(self.faults) < MOST_FAULTS and len(name) <= LONGEST_HINT
         near = names.near(name, bound) if worthwhile else None
-        hint = f" (near: {cited(near)})" if near else ""
+        same = ", in other characters" if near and look(near) == look(name) else ""
+        hint = f" (near: {cited(near)}{same})" if near else ""
         self.fault(line, f"no {what} is named {cited(name)}; expected the name of one, or {numbered}{hint}")
 
     def include(self, line, text, number, found):
@@ -269,10 +270,10 @@ class Draft(Listing):
             if len(names) == self.kind.limit:
                 self.stop(line, f"too many {self.kind.members}; expected at most {self.kind.limit}")
             name = self.name(line, text)
-            if name is not None and alike(name) in seen:
+            if name is not None and name_key(name) in seen:
                 self.fault(line, f"two {self.kind.members} are named {cited(name)}; expected different names")
             names.append(name)
-            seen.add(None if name is None else alike(name))
+            seen.add(None if name is None else name_key(name))
         return Names(names)
 
     def horizon(self):

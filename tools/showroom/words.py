@@ -48,8 +48,8 @@ def clean(text):
     return "".join(c if c.isprintable() or c == "\n" else "?" for c in text)
 
 
-def alike(name):
-    """What two names have in common that are one word typed on two keyboards: ü as one character, or as u and a mark."""
+def look(name):
+    """What names have in common that look the same. They need not be equal: only some characters have two writings there."""
     return unicodedata.normalize("NFC", decoded(name))
 
 
@@ -63,7 +63,7 @@ def called(job, number):
     name, plain = job.records[number].name, f"{job.kind.record} {number}"
     if not name:
         return plain
-    alone = sum(alike(record.name) == alike(name) for record in job.records) == 1
+    alone = sum(look(record.name) == look(name) for record in job.records) == 1
     return printed(name) if alone else f"{printed(name)} ({plain})"
 
 
