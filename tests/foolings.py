@@ -487,10 +487,10 @@ def architecture(folder):
         with planted(path, old, new):
             found(label, words, declared.drawn, folder)
     for label, old, new, words in (
-        ("a definition that the crate lacks", "`sameName`, `lowestNamed`;", "`sameName`, `lowestNamed`, `contribution`;", "contribution (main definitions of names)"),
-        ("a theorem that is none", "`list-same`, `agree`", "`list-same`, `sameName`", "sameName (main theorems of names)"),
-        ("a function of another crate", "`same_name`, `search`;", "`same_name`, `search`, `first_bad`;", "first_bad (main functions of names)"),
-        ("a crate for a function", "`same_name`, `search`;", "`filter`, `search`;", "filter (main functions of names)"),
+        ("a definition that the crate lacks", "`lowestNamed`; `alike`", "`lowestNamed`, `contribution`; `alike`", "contribution (main definitions of names)"),
+        ("a theorem that is none", "`name-symmetric`, `name-transitive`", "`name-symmetric`, `sameName`", "sameName (main theorems of names)"),
+        ("a function of another crate", "`same_bytes`, `equal`,", "`same_bytes`, `equal`, `first_bad`,", "first_bad (main functions of names)"),
+        ("a crate for a function", "`same_bytes`, `equal`,", "`filter`, `equal`,", "filter (main functions of names)"),
         ("a file that is not there", "in `likeness.rt`", "in `likenes.rt`", "likenes.rt (main functions of names)"),
         ("a tool that is not there", "`tools/library` builds", "`tools/libraries` builds", "tools/libraries (main functions of capi)"),
     ):
