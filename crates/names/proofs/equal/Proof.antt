@@ -1,7 +1,7 @@
 -- `names::equal` meets its contract.
 use borrow.Author.Needs.{needs}
-use borrow.Author.Tests.{not-true}
 use mathlib.Core.Path.{sym, ap₂, _∙_}
+use borrow.Author.Tests.{not-true}
 use Rattle.unicode.specs.Forms.{sameForm}
 use Rattle.unicode.proofs.FormLaws.{told-none}
 use Rattle.names.proofs.EqualLaws.{bytes-same, forms-same, forms-differ}

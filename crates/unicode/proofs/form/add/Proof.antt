@@ -1,14 +1,14 @@
 -- `unicode::form::add` meets its contract.
-use borrow.Author.Tests.{lt-ltb}
+use borrow.Author.Needs.{needs}
 use mathlib.Core.Path.{_≡_, sym, ap, _∙_}
-use native.Mathlib.Omega.{arith}
-use Rattle.unicode.specs.Meaning.{told, more, moreAll}
-use Rattle.unicode.specs.Canonical.{firstOf, secondOf, parts}
-use Rattle.unicode.proofs.FormLaws.{first-covered, second-covered, parts-one, parts-two, more-one, more-two}
 use mathlib.Core.List.{List, [], _∷_}
 use mathlib.Core.Option.{Option}
 use Prim.Native.Nat.{ℕ}
-use borrow.Author.Needs.{needs}
+use native.Mathlib.Omega.{arith}
+use borrow.Author.Tests.{lt-ltb}
+use Rattle.unicode.specs.Canonical.{firstOf, secondOf, parts}
+use Rattle.unicode.specs.Meaning.{told, more, moreAll}
+use Rattle.unicode.proofs.FormLaws.{first-covered, second-covered, parts-one, parts-two, more-one, more-two}
 use Rattle.unicode.proofs.form.add.Statement.{statement}
 use Rattle.unicode.proofs.form.add.Tie as tie
 

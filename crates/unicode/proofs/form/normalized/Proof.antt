@@ -1,6 +1,5 @@
 -- `unicode::form::normalized` meets its contract. The invariant: with the characters of the bytes that are left, the form so far becomes that of all.
 use borrow.Author.Needs.{needs}
-use borrow.Author.Tests.{not-true}
 use mathlib.Core.Path.{_≡_, refl, sym, ap, _∙_}
 use mathlib.Core.List.{List}
 use mathlib.Core.Option.{Option, none}
@@ -8,6 +7,7 @@ use Prim.Native.Nat.{ℕ, _+_, _-_, _≤_}
 use native.Mathlib.Omega.{arith}
 use lib.ListN.{length, drop, length-drop, drop-of-length-le}
 use lib.Seq.{drop-drop}
+use borrow.Author.Tests.{not-true}
 use Rattle.unicode.specs.Utf8.{coversAll}
 use Rattle.unicode.specs.Canonical.{parts}
 use Rattle.unicode.specs.Forms.{textOf, ordered, form}

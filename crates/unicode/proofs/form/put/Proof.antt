@@ -1,11 +1,11 @@
 -- `unicode::form::put` meets its contract.
-use borrow.Author.Tests.{not-true, not-false}
-use mathlib.Core.Path.{_≡_, _∙_}
-use native.Mathlib.Omega.{arith}
-use Rattle.unicode.proofs.FormLaws.{put-more, put-full, put-none, known-sound}
-use lib.ListN.{length, take}
-use Prim.Native.Nat.{_≤_}
 use borrow.Author.Needs.{needs}
+use mathlib.Core.Path.{_≡_, _∙_}
+use Prim.Native.Nat.{_≤_}
+use native.Mathlib.Omega.{arith}
+use lib.ListN.{length, take}
+use borrow.Author.Tests.{not-true, not-false}
+use Rattle.unicode.proofs.FormLaws.{put-more, put-full, put-none, known-sound}
 use Rattle.unicode.proofs.form.put.Statement.{statement}
 use Rattle.unicode.proofs.form.put.Tie as tie
 

@@ -1,10 +1,10 @@
--- `unicode::form::same` meets its contract.
+-- `unicode::form::same` meets its contract. The invariant: the characters before i are the same.
 use borrow.Author.Needs.{needs}
-use borrow.Author.Tests.{not-true, not-false}
 use mathlib.Core.Path.{_≡_}
 use Prim.Native.Nat.{ℕ, _-_, _≤_, _<_}
 use native.Mathlib.Omega.{arith}
 use lib.ListN.{length, getD, take}
+use borrow.Author.Tests.{not-true, not-false}
 use Rattle.sets.proofs.Ranges.{one-more}
 use Rattle.unicode.proofs.FormLaws.{known-sound, same-left, same-right, same-counts, same-one, same-every}
 use Rattle.unicode.proofs.form.same.Statement.{statement}

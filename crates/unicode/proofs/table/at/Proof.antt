@@ -1,6 +1,6 @@
 -- `unicode::table::at` meets its contract: the constant is the table.
-use mathlib.Core.Path.{refl}
 use borrow.Author.Needs.{needs}
+use mathlib.Core.Path.{refl}
 use Rattle.unicode.specs.Table.{table}
 use Rattle.unicode.proofs.table.at.Statement.{statement}
 use Rattle.unicode.proofs.table.at.Tie as tie

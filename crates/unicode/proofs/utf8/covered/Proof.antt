@@ -1,6 +1,6 @@
 -- `unicode::utf8::covered` meets its contract.
-use borrow.Author.Tests.{lt-ltb, le-ltb, le-leb, lt-leb}
 use native.Mathlib.Omega.{arith}
+use borrow.Author.Tests.{lt-ltb, le-ltb, le-leb, lt-leb}
 use Rattle.unicode.proofs.utf8.covered.Statement.{statement}
 use Rattle.unicode.proofs.utf8.covered.Tie as tie
 

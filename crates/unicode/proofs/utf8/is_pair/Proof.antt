@@ -1,8 +1,8 @@
 -- `unicode::utf8::is_pair` meets its contract.
-use borrow.Author.Tests.{lt-ltb, le-ltb, le-leb, lt-leb}
+use borrow.Author.Needs.{needs}
 use mathlib.Core.Path.{_∙_}
 use native.Mathlib.Omega.{arith}
-use borrow.Author.Needs.{needs}
+use borrow.Author.Tests.{lt-ltb, le-ltb, le-leb, lt-leb}
 use Rattle.unicode.proofs.utf8.is_pair.Statement.{statement}
 use Rattle.unicode.proofs.utf8.is_pair.Tie as tie
 

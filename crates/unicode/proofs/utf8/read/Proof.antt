@@ -1,9 +1,9 @@
 -- `unicode::utf8::read` meets its contract.
-use borrow.Author.Tests.{not-true, not-false}
+use borrow.Author.Needs.{needs}
 use mathlib.Core.Path.{sym, _∙_}
 use native.Mathlib.Omega.{arith}
+use borrow.Author.Tests.{not-true, not-false}
 use Rattle.unicode.proofs.Utf8Laws.{pair-from, read-one, read-cut, read-bad, read-two}
-use borrow.Author.Needs.{needs}
 use Rattle.unicode.proofs.utf8.read.Statement.{statement}
 use Rattle.unicode.proofs.utf8.read.Tie as tie
 
