@@ -17,7 +17,7 @@ use Rattle.sets.specs.Sets.{_∈_, without, part, full}
 use Rattle.sets.specs.Ranges.{anyTo}
 use Rattle.sets.specs.Lists.{sameList}
 use Rattle.sets.specs.First.{firstFrom, LeastFrom, Smallest}
-use Rattle.sets.proofs.Ranges.{both-true, true-both, either-true, any-at, at-any}
+use Rattle.sets.proofs.Ranges.{both-true, true-both, either-true, left-true, right-true, any-at, at-any}
 use Rattle.sets.proofs.Lists.{list-same, agree}
 use Rattle.sets.proofs.Bits.{bit-shift, in-without, top-in, yes-part, part-in}
 use Rattle.sets.proofs.Lowest.{some-member}
@@ -172,13 +172,6 @@ first-exactly test P n h u = (to, back)
         go : (y : ℕ) → P y → Dec (u ≤ y) → u ≤ y
         go y q (yes k) = k
         go y q (no k) = absurd (least y (omega arith) q)
-
-left-true : (a b : Bool) → a ≡ true → a || b ≡ true
-left-true a b e = ap (λ t. t || b) e
-
-right-true : (a b : Bool) → b ≡ true → a || b ≡ true
-right-true true b e = refl
-right-true false b e = e
 
 either-exactly : {a b : Bool} {P Q : Type 0} → Exactly (a ≡ true) P → Exactly (b ≡ true) Q → Exactly (a || b ≡ true) (P ⊎ Q)
 either-exactly {a} {b} f g = (λ e. ⊎-elim (λ p. inl (f .0 p)) (λ q. inr (g .0 q)) (either-true a b e), ⊎-elim (λ p. left-true a b (f .1 p)) (λ q. right-true a b (g .1 q)))

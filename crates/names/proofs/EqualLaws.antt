@@ -1,14 +1,14 @@
 -- The test of two names says what the rule says; and equality of names is an equivalence, of all byte strings. Assumes nothing.
 use mathlib.Core.Path.{_≡_, refl, sym, ap, _∙_}
 use mathlib.Core.Logic.{_⊎_, inl, inr}
-use mathlib.Core.Bool.{Bool, true, false, _||_, false≢true}
+use mathlib.Core.Bool.{true, false, false≢true}
 use mathlib.Core.List.{List}
 use mathlib.Core.Option.{Option, none, some}
 use Prim.Native.Nat.{ℕ, _*_, _≤_}
 use native.Mathlib.Omega.{arith}
 use lib.ListN.{length}
 use Rattle.sets.specs.Lists.{sameList}
-use Rattle.sets.proofs.Ranges.{either-true, same-true}
+use Rattle.sets.proofs.Ranges.{either-true, left-true, right-true, same-true}
 use Rattle.sets.proofs.Lists.{same-list, list-same, agree}
 use Rattle.unicode.specs.Forms.{textOf, nfd, formOf, form, sameForm}
 use Rattle.unicode.specs.Meaning.{short}
@@ -47,14 +47,6 @@ pub text-form : (a b : List ℕ) → SameText a b → sameForm (form a) (form b)
 text-form a b (x, y, xa, ya, xc, yc, e) =
     same-form (form a) (form b) (nfd x) (ap formOf (ap textOf xa ∙ text-of-utf8 x xc)) (ap formOf (ap textOf ya ∙ text-of-utf8 y yc) ∙ ap some (sym (equivalent-same x y xc yc e)))
 
-either-left : (a b : Bool) → a ≡ true → a || b ≡ true
-either-left true b e = refl
-either-left false b e = absurd (false≢true e)
-
-either-right : (a b : Bool) → b ≡ true → a || b ≡ true
-either-right true b e = refl
-either-right false b e = e
-
 pub same-equal : (a b : List ℕ) → sameName a b ≡ true → Equal a b
 unfolding sameName
 same-equal a b e = go (either-true (sameList a b) (sameForm (form a) (form b)) e)
@@ -65,8 +57,8 @@ same-equal a b e = go (either-true (sameList a b) (sameForm (form a) (form b)) e
 
 pub equal-same : (a b : List ℕ) → Equal a b → sameName a b ≡ true
 unfolding sameName
-equal-same a b (inl e) = either-left (sameList a b) (sameForm (form a) (form b)) (sym (agree a b e))
-equal-same a b (inr t) = either-right (sameList a b) (sameForm (form a) (form b)) (text-form a b t)
+equal-same a b (inl e) = left-true (sameList a b) (sameForm (form a) (form b)) (sym (agree a b e))
+equal-same a b (inr t) = right-true (sameList a b) (sameForm (form a) (form b)) (text-form a b t)
 
 -- ---- an equivalence, of all byte strings
 

@@ -52,6 +52,14 @@ pub either-true : (a b : Bool) → a || b ≡ true → (a ≡ true) ⊎ (b ≡ t
 either-true true b e = inl refl
 either-true false b e = inr e
 
+pub left-true : (a b : Bool) → a ≡ true → a || b ≡ true
+left-true true b e = refl
+left-true false b e = absurd (false≢true e)
+
+pub right-true : (a b : Bool) → b ≡ true → a || b ≡ true
+right-true true b e = refl
+right-true false b e = e
+
 pub both-false : (a b : Bool) → a ≡ false → b ≡ false → a || b ≡ false
 both-false true b e f = e
 both-false false b e f = f

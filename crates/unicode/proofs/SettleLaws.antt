@@ -5,7 +5,7 @@ use mathlib.Core.List.{List, [], _∷_, _++_, append-assoc}
 use Prim.Native.Nat.{ℕ, zero, suc, _+_, _-_, _<_, _≤_}
 use native.Mathlib.Omega.{arith}
 use lib.ListN.{length, take, drop, getD, set, length-append, length-drop, length-set, drop-of-length-le, take-append-drop}
-use lib.Seq.{take-suc, drop-cons, take-at, take-all, set-split, getD-set-same, length-take-le}
+use lib.Seq.{take-suc, drop-cons, take-at, take-all, set-split, getD-set-same, getD-at, length-take-le}
 use Rattle.sets.proofs.Ranges.{both-true}
 use Rattle.unicode.specs.Utf8.{covers, coversAll}
 use Rattle.unicode.specs.Canonical.{reorderable, InOrder}
@@ -85,13 +85,7 @@ module _ (o t : List ℕ) (c k : ℕ) (next : List ℕ) (s : Settling o t c (suc
   settle-length = length-take-le k o (omega (arith, inside))
 
   pub settle-read : getD next k 0 ≡ p
-  settle-read = ap (λ (x : List ℕ). getD x k 0) shaped ∙ got (take k o) p (c ∷ (drop (suc k) o ++ t)) k settle-length
-    where
-      got : (xs : List ℕ) (p : ℕ) (l : List ℕ) (k : ℕ) → length xs ≡ k → getD (xs ++ (p ∷ l)) k 0 ≡ p
-      got [] p l zero e = refl
-      got [] p l (suc k) e = absurd (omega arith)
-      got (x ∷ xs) p l zero e = absurd (omega arith)
-      got (x ∷ xs) p l (suc k) e = got xs p l k (omega arith)
+  settle-read = ap (λ (x : List ℕ). getD x k 0) shaped ∙ getD-at (take k o) p (c ∷ (drop (suc k) o ++ t)) 0 k settle-length
 
   pub settle-next : InOrder o → reorderable p c ≡ true → Settling o t c k (set (set next (suc k) p) k c)
   settle-next tidy e = record {

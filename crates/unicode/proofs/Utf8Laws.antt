@@ -73,49 +73,49 @@ pub before-some : (c : ℕ) (o : Option (List ℕ)) (cs : List ℕ) → before c
 before-some c none cs e = let z : _≡_ {A = ℕ} 0 1 = cc in absurd (omega arith)
 before-some c (some ds) cs e = (ds, refl, cc)
 
-Told : List ℕ → List ℕ → Type 0
-Told s cs = (s ≡ utf8 cs) × (coversAll cs ≡ true)
+Written : List ℕ → List ℕ → Type 0
+Written s cs = (s ≡ utf8 cs) × (coversAll cs ≡ true)
 
-told-none : Told [] []
-unfolding Told utf8 coversAll
-told-none = (refl, refl)
+written-none : Written [] []
+unfolding Written utf8 coversAll
+written-none = (refl, refl)
 
 -- one character in front
-told-single : (a : ℕ) (s cs : List ℕ) → a < 0x80 → Told s cs → Told (a ∷ s) (a ∷ cs)
-unfolding Told utf8 coversAll
-told-single a s cs h (e, c) =
+written-single : (a : ℕ) (s cs : List ℕ) → a < 0x80 → Written s cs → Written (a ∷ s) (a ∷ cs)
+unfolding Written utf8 coversAll
+written-single a s cs h (e, c) =
     (ap (λ (l : List ℕ). a ∷ l) e ∙ ap (λ (l : List ℕ). l ++ utf8 cs) (sym (one-byte a h)), rw (lt-ltb a 0x180 (omega arith)) c)
 
-told-pair : (a b : ℕ) (s cs : List ℕ) → isPair a b ≡ true → Told s cs → Told (a ∷ b ∷ s) (joined a b ∷ cs)
-unfolding Told utf8 coversAll
-told-pair a b s cs h (e, c) =
+written-pair : (a b : ℕ) (s cs : List ℕ) → isPair a b ≡ true → Written s cs → Written (a ∷ b ∷ s) (joined a b ∷ cs)
+unfolding Written utf8 coversAll
+written-pair a b s cs h (e, c) =
     let (p, q, r, m) = pair-from a b h in
     (ap (λ (l : List ℕ). a ∷ b ∷ l) e ∙ ap (λ (l : List ℕ). l ++ utf8 cs) (sym (pair-bytes a b h)), rw m c)
 
 -- and a name that has a text is its bytes
-told : (s cs : List ℕ) → textOf s ≡ some cs → Told s cs
+written : (s cs : List ℕ) → textOf s ≡ some cs → Written s cs
 unfolding textOf
-told [] cs e = let z : [] ≡ cs = cc in rw (← z) told-none
-told (a ∷ []) cs e = go (test-cases (ltb a 0x80)) e
+written [] cs e = let z : [] ≡ cs = cc in rw (← z) written-none
+written (a ∷ []) cs e = go (test-cases (ltb a 0x80)) e
   where
-    go : (ltb a 0x80 ≡ true) ⊎ (ltb a 0x80 ≡ false) → textOf (a ∷ []) ≡ some cs → Told (a ∷ []) cs
-    go (inl t) e = let n : some (a ∷ []) ≡ some cs = rw t at e in let z : a ∷ [] ≡ cs = cc in rw (← z) (told-single a [] [] (ltb-true a 0x80 t) told-none)
+    go : (ltb a 0x80 ≡ true) ⊎ (ltb a 0x80 ≡ false) → textOf (a ∷ []) ≡ some cs → Written (a ∷ []) cs
+    go (inl t) e = let n : some (a ∷ []) ≡ some cs = rw t at e in let z : a ∷ [] ≡ cs = cc in rw (← z) (written-single a [] [] (ltb-true a 0x80 t) written-none)
     go (inr t) e = let n : _≡_ {A = Option (List ℕ)} none (some cs) = rw t at e in let z : _≡_ {A = ℕ} 0 1 = cc in absurd (omega arith)
-told (a ∷ b ∷ s) cs e = go (λ ds. told (b ∷ s) ds) (λ ds. told s ds) (test-cases (ltb a 0x80)) (test-cases (isPair a b)) e
+written (a ∷ b ∷ s) cs e = go (λ ds. written (b ∷ s) ds) (λ ds. written s ds) (test-cases (ltb a 0x80)) (test-cases (isPair a b)) e
   where
-    go : ((ds : List ℕ) → textOf (b ∷ s) ≡ some ds → Told (b ∷ s) ds) → ((ds : List ℕ) → textOf s ≡ some ds → Told s ds)
-        → (ltb a 0x80 ≡ true) ⊎ (ltb a 0x80 ≡ false) → (isPair a b ≡ true) ⊎ (isPair a b ≡ false) → textOf (a ∷ b ∷ s) ≡ some cs → Told (a ∷ b ∷ s) cs
+    go : ((ds : List ℕ) → textOf (b ∷ s) ≡ some ds → Written (b ∷ s) ds) → ((ds : List ℕ) → textOf s ≡ some ds → Written s ds)
+        → (ltb a 0x80 ≡ true) ⊎ (ltb a 0x80 ≡ false) → (isPair a b ≡ true) ⊎ (isPair a b ≡ false) → textOf (a ∷ b ∷ s) ≡ some cs → Written (a ∷ b ∷ s) cs
     go one two (inl t) y e =
         let (ds, p, q) = before-some a (textOf (b ∷ s)) cs (rw t at e) in
-        rw (← q) (told-single a (b ∷ s) ds (ltb-true a 0x80 t) (one ds p))
+        rw (← q) (written-single a (b ∷ s) ds (ltb-true a 0x80 t) (one ds p))
     go one two (inr t) (inl y) e =
         let (ds, p, q) = before-some (joined a b) (textOf s) cs (rw (t, y) at e) in
-        rw (← q) (told-pair a b s ds y (two ds p))
+        rw (← q) (written-pair a b s ds y (two ds p))
     go one two (inr t) (inr y) e = let n : _≡_ {A = Option (List ℕ)} none (some cs) = rw (t, y) at e in let z : _≡_ {A = ℕ} 0 1 = cc in absurd (omega arith)
 
 pub utf8-of-text : (s cs : List ℕ) → textOf s ≡ some cs → (s ≡ utf8 cs) × (coversAll cs ≡ true)
-unfolding Told
-utf8-of-text s cs e = told s cs e
+unfolding Written
+utf8-of-text s cs e = written s cs e
 
 pub covered-high : (c : ℕ) → covers c ≡ true → 0x180 ≤ c → 0x300 ≤ c
 covered-high c h l = leb-true 0x300 c (both-true (leb 0x300 c) (ltb c 0x370) (rw (le-ltb c 0x180 l) at h) .0)

@@ -12,7 +12,8 @@ encoded c =
     (cond (ltb c 0x10000) ((0xe0 + c / 4096) ∷ (0x80 + c / 64 % 64) ∷ (0x80 + c % 64) ∷ [])
     ((0xf0 + c / 262144) ∷ (0x80 + c / 4096 % 64) ∷ (0x80 + c / 64 % 64) ∷ (0x80 + c % 64) ∷ [])))
 
--- the bytes of a text. Bytes are UTF-8 if they are those of a text; so bytes that are cut short or longer than needed are not
+-- the bytes of a text. Bytes are UTF-8 if they are those of a text; so bytes that are cut short or longer than needed are not. Surrogates and numbers
+-- above U+10FFFF are no characters of a text: they are not covered, and the rule asks for covered ones
 unfoldable pub utf8 : List ℕ → List ℕ
 utf8 [] = []
 utf8 (c ∷ cs) = encoded c ++ utf8 cs
