@@ -20,7 +20,7 @@ const NO_SELECTION: u32 = 14;
 const NO_PLAN: u32 = 15;
 const ARTICLES: usize = 64;
 const ROUNDS: usize = 16;
-const LONGEST: u64 = 3211;
+const LONGEST: u64 = 3467;
 
 extern "C" {
     fn kitchen_partition(file: *const u8, file_len: usize, groups: *mut u8, groups_len: usize, out: *mut u64) -> u32;

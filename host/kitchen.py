@@ -11,8 +11,10 @@
         print(sorted(answer.articles))
 
 A job file is bytes; docs/RULES.md says how it is laid out, and include/kitchen.h what each call takes and answers. Sets
-are Python sets of numbers. A `NoSelection(place)` and `NoPlan` are answers. `Refused(number, place)` is raised if a call
-is turned down, and `Unusable` if a job cannot be written or the library cannot be used.
+are Python sets of numbers. Prices are in cents, and below 0 for a trade-in: `article({0}, name="Larder", price=12990)`; then
+`shop.price(file, 1900)` answers the cheapest selection, its total, and its tax at 19 percent. A `NoSelection(place)` and
+`NoPlan` are answers. `Refused(number, place)` is raised if a call is turned down, and `Unusable` if a job cannot be written
+or the library cannot be used.
 
 What is built, written and read here, and whether two names are equal by `same_name`, is plain Python and only tested; what
 `Library` answers is what the proved calls answered for these very bytes.
@@ -24,29 +26,33 @@ import unicodedata
 from collections import namedtuple
 
 # The number of the interface in include/kitchen.h. A library of another number is not used.
-VERSION = 5
+VERSION = 6
 
 # A kind of job: its first byte and word, its records and what sets are counted against, the limit of both counts, the
-# limit of the horizon if there is one, the bytes of a set, the sets of its head and those of a record.
-Kind = namedtuple("Kind", "byte word record records member members limit horizon width heads fields")
-CHOICE = Kind(67, "choice", "article", "articles", "wish", "wishes", 64, None, 8, ("order",), ("wishes", "clashes"))
+# limit of the horizon if there is one, the bytes of a set, the sets of its head and those of a record, and whether a record
+# may have a price.
+Kind = namedtuple("Kind", "byte word record records member members limit horizon width heads fields priced")
+CHOICE = Kind(67, "choice", "article", "articles", "wish", "wishes", 64, None, 8, ("order",), ("wishes", "clashes"), True)
 FITTING = Kind(
-    70, "fitting", "step", "steps", "fact", "facts", 32, 16, 4, ("start", "goal"), ("needs", "gives", "takes")
+    70, "fitting", "step", "steps", "fact", "facts", 32, 16, 4, ("start", "goal"), ("needs", "gives", "takes"), False
 )
 KINDS = (CHOICE, FITTING)
 LONGEST_NAME = 32
+PRICE_BYTES, LOWEST_PRICE, HIGHEST_PRICE = 4, -(2**31), 2**31 - 1  # prices are in cents
 
 # A job: its kind, how many wishes or facts there are, the horizon (None for a choice), the sets of its head in the order
-# of `heads`, and its records, each with the sets in the order of `fields` and its name, as bytes.
+# of `heads`, and its records, each with the sets in the order of `fields`, its name, as bytes, and its price, 0 if it has none.
 Job = namedtuple("Job", "kind members horizon sets records")
-Record = namedtuple("Record", "sets name")
+Record = namedtuple("Record", "sets name price", defaults=[0])
 
 # What is answered. Both of a selection are sets of articles; if there is none, the place is the index of the first goal
 # that falls short, and the count of goals if none does. A pass leaves a set of articles live; its sum is that of all
-# contributions before it. The rounds of a plan are sets of steps, in order.
+# contributions before it. What is priced is a set of articles, with its total and its tax in cents; if there is none, the place
+# is always 0. The rounds of a plan are sets of steps, in order.
 Selection = namedtuple("Selection", "articles aside")
 NoSelection = namedtuple("NoSelection", "place")
 Passed = namedtuple("Passed", "live sum")
+Priced = namedtuple("Priced", "articles total tax")
 Plan = namedtuple("Plan", "rounds")
 
 
@@ -114,8 +120,9 @@ def same_name(a, b):
     return name_key(a) == name_key(b)
 
 
-def article(wishes=(), clashes=(), name=b""):
-    return Record([set(wishes), set(clashes)], named(name))
+def article(wishes=(), clashes=(), name=b"", price=0):
+    """An article; a price of 0 is none."""
+    return Record([set(wishes), set(clashes)], named(name), price)
 
 
 def step(needs=(), gives=(), takes=(), name=b""):
@@ -132,7 +139,7 @@ def choice(wishes, order, articles):
             if low < 0 or high >= len(articles) or low == high:
                 raise Unusable(f"article {number} cannot clash with {other}")
             clashes[high].add(low)
-    records = [Record([set(record.sets[0]), clash], record.name) for record, clash in zip(articles, clashes)]
+    records = [record._replace(sets=[set(record.sets[0]), clash]) for record, clash in zip(articles, clashes)]
     return usable(Job(CHOICE, wishes, None, [set(order)], records))
 
 
@@ -146,6 +153,14 @@ def sets_of(kind, number, record):
     if len(record.sets) != len(kind.fields):
         raise Unusable(f"{kind.record} {number} has {len(record.sets)} sets; {kind.records} have {len(kind.fields)}")
     return record.sets
+
+
+def check_price(kind, number, price):
+    """Whether a file can state this price of that record."""
+    if price and not kind.priced:
+        raise Unusable(f"{kind.record} {number} has a price; {kind.records} have none")
+    if not isinstance(price, int) or not LOWEST_PRICE <= price <= HIGHEST_PRICE:
+        raise Unusable(f"the price of {kind.record} {number} is {price!r}; expected cents from {LOWEST_PRICE} to {HIGHEST_PRICE}")
 
 
 def usable(job):
@@ -162,6 +177,7 @@ def usable(job):
     for number, record in enumerate(job.records):
         if len(record.name) > LONGEST_NAME:
             raise Unusable(f"the name of {kind.record} {number} has {len(record.name)} bytes; at most {LONGEST_NAME} do")
+        check_price(kind, number, record.price)
         for word, members in zip(kind.fields, sets_of(kind, number, record)):
             bound = number if word == "clashes" else job.members
             heads.append((f"the {word} of {kind.record} {number}", members, bound))
@@ -184,6 +200,7 @@ def record_bytes(record, width):
     """The bit map, and the fields that it marks: those that are not empty."""
     fields = [stored(members, width) if members else b"" for members in record.sets]
     fields.append(bytes([len(record.name)]) + record.name if record.name else b"")
+    fields.append(record.price.to_bytes(PRICE_BYTES, "little", signed=True) if record.price else b"")
     return bytes([sum(1 << bit for bit, field in enumerate(fields) if field)]) + b"".join(fields)
 
 
@@ -229,8 +246,8 @@ class Reader:
         return count
 
     def marks(self, number):
-        """The bits of a record's bit map, a truth value for each set and one for the name."""
-        width = len(self.kind.fields) + 1
+        """The bits of a record's bit map, a truth value for each set, one for the name, and one for the price if there are prices."""
+        width = len(self.kind.fields) + 1 + self.kind.priced
         place, bits = self.at, self.item(1, "the bit map", number)[0]
         if bits >> width:
             raise Refused(4, place)
@@ -253,13 +270,19 @@ class Reader:
             raise Refused(7, place)
         return self.item(length, "the name", number)
 
+    def price(self, number):
+        place, price = self.at, int.from_bytes(self.item(PRICE_BYTES, "the price", number), "little", signed=True)
+        if price == 0:
+            raise Refused(5, place)
+        return price
+
     def record(self, number, members):
-        *marked, named = self.marks(number)
-        sets = []
-        for what, present in zip(self.kind.fields, marked):
+        sets, marks = [], self.marks(number)
+        for what, present in zip(self.kind.fields, marks):
             bound = number if what == "clashes" else members
             sets.append(self.members(f"the {what}", bound, number) if present else set())
-        return Record(sets, self.name(number) if named else b"")
+        named, *priced = marks[len(self.kind.fields) :]
+        return Record(sets, self.name(number) if named else b"", self.price(number) if any(priced) else 0)
 
     def read(self):
         self.kind = next((kind for kind in KINDS if self.file[:1] == bytes([kind.byte])), None)
@@ -301,7 +324,7 @@ def members_of(number):
 # ---- the proved calls
 
 FACT_WORDS, ROUND_WORDS = 32, 64  # the mutex words of a fact layer and of a round layer
-LONGEST_CHOICE = 3211  # bytes; no choice file that is in order has more
+LONGEST_CHOICE = 3467  # bytes; no choice file that is in order has more
 LARGEST = 2**64 - 1
 
 
@@ -317,6 +340,11 @@ def word(number):
     if not 0 <= number <= LARGEST:
         raise Unusable(f"{number} is not a number from 0 to 2^64 - 1")
     return ctypes.c_uint64(number)
+
+
+def signed(word):
+    """The number that a word of 64 bits is in two's complement."""
+    return word - 2**64 if word >> 63 else word
 
 
 def group_bytes(groups):
@@ -350,17 +378,17 @@ class Library:
         if self.version != VERSION:
             raise Unusable(f"{path} has the interface {self.version}; this module is for {VERSION}")
 
-    def call(self, name, file, *arguments):
-        """The status and the two words. A number comes as a word; bytes and arrays are slices: a pointer and a length."""
+    def call(self, name, file, *arguments, words=2):
+        """The status and the words. A number comes as a word; bytes and arrays are slices: a pointer and a length."""
         passed = []
         for argument in (as_bytes(file), *arguments):
             passed.append(argument)
             if not isinstance(argument, ctypes.c_uint64):
                 passed.append(ctypes.c_size_t(len(argument)))
-        out = (ctypes.c_uint64 * 2)()
+        out = (ctypes.c_uint64 * words)()
         function = getattr(self.library, f"kitchen_{name}")
         function.restype = ctypes.c_uint32
-        return function(*passed, out), out[0], out[1]
+        return function(*passed, out), *out
 
     def answered(self, name, file, *arguments):
         """The two words of an answer."""
@@ -420,10 +448,23 @@ class Library:
             if floor > LARGEST:
                 return
 
+    def price(self, file, rate):
+        """The cheapest selection, of several the one with the smallest number, with its total and its tax in cents; or NoSelection(0).
+
+        The rate is in hundredths of a percent, 1900 for 19 percent; one above 10,000 is refused by 17. An article without a
+        price counts as 0, and what lowers the total is taken, even if no wish asks for it. A half cent of tax goes away from zero.
+        """
+        status, first, total, tax = self.call("price", file, word(rate), words=3)
+        if status == NO_SELECTION:
+            return NoSelection(first)
+        if status:
+            raise Refused(status, first)
+        return Priced(members_of(first), signed(total), signed(tax))
+
     # -- choice files with a change
 
     def saved(self, name, file, *arguments):
-        """The new file, from a buffer that is long enough for every one."""
+        """The new file, from a buffer that is long enough for every one. It has the prices of the old one."""
         to = (ctypes.c_uint8 * LONGEST_CHOICE)()
         length, _ = self.answered(name, file, *arguments, to)
         return bytes(to)[:length]
@@ -485,5 +526,5 @@ class Library:
         return first
 
     def alike(self, a, b):
-        """Whether two choice files agree in all but their names."""
+        """Whether two choice files agree in all but their names and prices."""
         return self.answered("compare", a, as_bytes(b))[0] == 1

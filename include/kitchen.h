@@ -6,7 +6,7 @@
  *     tools/library
  *
  * which makes target/lib/libkitchen.a, an archive to link, and target/lib/libkitchen.so, a shared library for languages
- * that load one; its soname is libkitchen.so.5. `make install` puts both and this header where your system has such
+ * that load one; its soname is libkitchen.so.6. `make install` puts both and this header where your system has such
  * things, and in the folder that `make dist` packs both are in lib/.
  *
  * A program in C that chooses, from a job file on standard input, is built by
@@ -56,12 +56,15 @@
  *
  * host/ has longer examples, with names and plans.
  *
- * Answers. Each of the thirteen calls returns 0 for an answer, and otherwise the number of the reason why it was turned
+ * Answers. Each of the fourteen calls returns 0 for an answer, and otherwise the number of the reason why it was turned
  * down. 14, 15 and 16 are answers as well, in the form of a refusal: the input is in order, and there is no such
  * selection, plan or name. All others say that the input is at fault; `tools/job explain` puts them into words. A call
- * always writes both words of `out`: the values of the answer, named beside each function, or the place of the refusal
- * and 0; unused words are 0. `out` must not be null. It is the return value and no lent buffer: reason 10 never speaks
- * of it.
+ * always writes all words of `out`, two of them, and three for kitchen_price: the values of the answer, named beside
+ * each function, or the place of the refusal and zeros; unused words are 0. `out` must not be null. It is the return
+ * value and no lent buffer: reason 10 never speaks of it.
+ *
+ * Prices. An article of a choice file may have a price in cents, of 32 bits and with a sign; a trade-in has one below 0.
+ * It is a part of the job that a file states, so the calls that save keep it. Only kitchen_price goes by prices.
  *
  * Arguments. A slice is a pointer and a length, in elements. The pointer of an empty slice may be null. Buffers must
  * not overlap each other, the file, a name or `out`; so a file is saved into a buffer of its own. A refusal writes to no
@@ -72,20 +75,22 @@
  *
  * Threads. Nothing here allocates, blocks, or keeps a pointer; calls may run in several threads at once. A thread that
  * plans MUST have a stack of 1 MB, within which our tests run the planner; the largest call that we measured takes
- * 266,408 bytes. With 128 KB the sample jobs/fitting.txt crashes. Of the other calls those that save take the most stack,
- * 31,512 bytes, as measured on the longest choice file.
+ * 266,408 bytes. With 128 KB the sample jobs/fitting.txt crashes. Of the other calls kitchen_price takes the most stack,
+ * 90,344 bytes, as measured on 64 articles that neither clash nor share a wish. Those that save take 33,912 bytes, as
+ * measured on the longest choice file.
  *
  * Time. No call can be interrupted, and none has a limit of time. In our bench a choice takes some thousandths of a
  * millisecond, and a plan mostly some hundredths to some tenths of one; the hardest plans in it take about a second, and
- * one that is not in it takes the same search without proofs some 25 s. No bound is promised: both problems are hard.
- * If you must not wait, plan in a process of its own, which you can end.
+ * one that is not in it takes the same search without proofs some 25 s. A price takes some hundredths of a millisecond to
+ * some milliseconds, and on the worst jobs that were found about a quarter of a second. No bound is promised: all three
+ * problems are hard. If you must not wait, plan and price in a process of its own, which you can end.
  */
 #ifndef KITCHEN_H
 #define KITCHEN_H
 
 /* Goes up whenever a declaration or a number below changes, the meaning of a word of `out`, or what a call answers.
  * kitchen_version() tells the number of the library that was built. */
-#define KITCHEN_VERSION 5
+#define KITCHEN_VERSION 6
 
 #include <stddef.h>
 #include <stdint.h>
@@ -113,7 +118,9 @@ enum {
     /* answers to input that is in order */
     KITCHEN_NO_SELECTION = 14,    /* there is no selection whose number is the floor or greater */
     KITCHEN_NO_PLAN = 15,         /* there is no plan whose count of rounds is the horizon or less */
-    KITCHEN_NO_NAME = 16          /* that name belongs to no article and to no step */
+    KITCHEN_NO_NAME = 16,         /* that name belongs to no article and to no step */
+    /* and a fault of an argument again */
+    KITCHEN_HIGH_RATE = 17        /* a tax rate is above 10,000 hundredths of a percent */
 };
 #define KITCHEN_ABSENT_LAYER KITCHEN_OUT_OF_RANGE /* its name up to version 2 */
 
@@ -125,11 +132,12 @@ enum {
     KITCHEN_FACTS = 32,             /* of a fitting file */
     KITCHEN_ROUNDS = 16,            /* the highest horizon, and the words of `rounds` that always do */
     KITCHEN_NAME_BYTES = 32,        /* of a name */
+    KITCHEN_RATE = 10000,           /* the highest tax rate, in hundredths of a percent */
     KITCHEN_FACT_WORDS = 32,        /* the mutex words of a fact layer */
     KITCHEN_ROUND_WORDS = 64,       /* the mutex words of a round layer */
-    KITCHEN_LONGEST_CHOICE = 3211,  /* no choice file that is in order has more bytes */
+    KITCHEN_LONGEST_CHOICE = 3467,  /* no choice file that is in order has more bytes */
     KITCHEN_LONGEST_FITTING = 1484, /* no fitting file that is in order has more bytes */
-    KITCHEN_LONGEST = 3211          /* the greater of the two */
+    KITCHEN_LONGEST = 3467          /* the greater of the two */
 };
 
 /* The number of the interface that was built: KITCHEN_VERSION, if the header belongs to the library. */
@@ -154,6 +162,20 @@ uint32_t kitchen_pass(const uint8_t *file, size_t file_len, const uint8_t *group
  * out: the selection, the set aside */
 uint32_t kitchen_choose(const uint8_t *file, size_t file_len, const uint8_t *groups, size_t groups_len,
                         const uint64_t *goals, size_t goals_len, uint64_t floor, uint64_t out[2]);
+
+/* The cheapest selection; if several cost the same, the smallest of them. Its total is the sum of the prices of its
+ * articles, of which an absent one is 0; what lowers the total is taken, even if no wish asks for it. The rate is in
+ * hundredths of a percent, so 1900 is 19 %. The tax is the total times the rate, divided by 10,000 and rounded to a
+ * whole cent; half a cent goes away from zero, so 0.5 is 1 and -0.5 is -1. Total and tax are in two's complement:
+ *
+ *     uint64_t priced[3];
+ *     if (kitchen_price(file, len, rate, priced) == 0)
+ *         printf("%" PRId64 " and %" PRId64 "\n", (int64_t)priced[1], (int64_t)priced[2]);
+ *
+ * The file is tested first, then the rate: one above KITCHEN_RATE is 17, whether there is a selection or not. 14 is "no
+ * selection", and its place is always 0 here. There are no groups, no goals and no floor.
+ * out: the selection, the total, the tax */
+uint32_t kitchen_price(const uint8_t *file, size_t file_len, uint64_t rate, uint64_t out[3]);
 
 /* Fact layer `layer`, 0 to the horizon, with the mutex words of 32 facts. Needs 32 words.
  * out: the facts, 0 */
@@ -180,7 +202,7 @@ uint32_t kitchen_name(const uint8_t *file, size_t file_len, uint64_t number, uin
  * out: its number, 0 */
 uint32_t kitchen_find(const uint8_t *file, size_t file_len, const uint8_t *name, size_t name_len, uint64_t out[2]);
 
-/* Whether two choice files are alike: all but their names agrees.
+/* Whether two choice files are alike: all but their names and prices agrees.
  * out: 1 if they are and 0 if not, 0 */
 uint32_t kitchen_compare(const uint8_t *first, size_t first_len, const uint8_t *second, size_t second_len,
                          uint64_t out[2]);

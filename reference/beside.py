@@ -1,5 +1,5 @@
 #!/usr/bin/env python3
-"""Runs the second program beside ours: all thirteen calls, with their buffers, through the C interface.
+"""Runs the second program beside ours: all fourteen calls, with their buffers, through the C interface.
 
     beside.py LIBRARY [--fault N]
 
@@ -7,9 +7,10 @@ It takes the files that are stated one by one, the examples of docs/RULES.md amo
 small files of a sort, drawn ones, wide ones, at the edge of the words, and damaged ones: cut at every place, with single bytes
 changed, lengthened, over their limits, with forbidden bits; and some whose plan is long looked for. What is saved is saved once
 more, and back. What falls short is tried on every selection. Names are searched for in other writings, and among names that are
-nearly the same. The same files come in every run. A difference is printed, and ends it with status 1; otherwise it prints how
-much was compared, and what of it mattered. --fault makes the second program err on purpose (FAULTS in rules.py): then a
-difference has to be found.
+nearly the same. What is cheapest is asked of files of few articles and of many, at rates that there are and such that there are
+not. The same files come in every run. A difference is printed, and ends it with status 1; otherwise it prints how much was
+compared, and what of it mattered. --fault makes the second program err on purpose (FAULTS in rules.py): then a difference has
+to be found.
 """
 
 import argparse
@@ -20,12 +21,12 @@ from itertools import cycle, product
 from unicodedata import normalize
 
 import rules
-from drawn import damaged, drawn_choice, drawn_fitting, drawn_name, full_choice, full_fitting, over_limits
-from drawn import small_choices, small_fittings, some, walk, wide_choice
+from drawn import HIGHEST, LOWEST, damaged, drawn_choice, drawn_fitting, drawn_name, drawn_price, full_choice, full_fitting
+from drawn import grouped_choice, over_limits, priced, priced_choices, small_choices, small_fittings, some, walk, wide_choice
 from library import Library, slices
 from long import LONG as LONG_SEARCHES
 from names import APART, COVERED, EQUAL, apart_by, as_bytes, drawn_search, equal_by, last_of, named_steps
-from reader import CHOICE, CHOICES, FITTING, FITTINGS, LONG, NOTHING, A, Article, B, Choice, F, G, H, M, N, Refused
+from reader import CHOICE, CHOICES, FITTING, FITTINGS, LONG, NOTHING, A, Article, B, Choice, F, G, H, M, N, P, Refused
 from reader import counts, step, written
 from rules import FIELDS, Change, number, of
 
@@ -39,12 +40,46 @@ GOALS = [[], [0], [1], [3], [5], [7], [8], [1, 7], [4, 5, 1], [3, 7, 9, 0]]
 # 64 articles, no two of which clash, and each carries all of 64 wishes: no sum is greater than theirs.
 MOST = written(Choice(64, set(range(64)), [Article(set(range(64)), set(), b"")] * 64))
 
+# Rates that there are, in hundredths of a percent, and such that there are not. At 5,000 an odd total comes to a half.
+RATES = [0, 1, 50, 100, 700, 1900, 5000, 9999, 10_000]
+TOO_HIGH = [10_001, 2**16, 2**32, 2**32 + 100, 2**63, FULL]
+
 # What is saved: names of these lengths; a change of each sort, for files that need not be in order; and these in turn with one that
 # is wrong for every file: five, so that they do not keep step with the four ways in which a byte is damaged.
 LENGTHS = [0, 1, 31, 32, 33, 255, 256, 257, 288, 65536]
 PLAIN = [Change("order", None, set()), Change("wishes", 0, {0}), Change("clashes", 0, set()), Change("name", 0, b"a")]
 IN_TURN = [*PLAIN, Change("name", FULL, b"n" * 33)]
 LONGER = 40  # more bytes than a change adds to a file
+
+
+# Prices of A's articles, a rate, and what comes of it: the cheapest of the selections 4, 5 and 6, its total and its tax.
+PRICED = [
+    ((0, 0, 0), 1900, (4, 0, 0)),
+    ((0, 0, 12990), 1900, (4, 12990, 2468)),
+    ((-4000, 0, 12990), 1900, (5, 8990, 1708)),
+    ((0, -4000, 100), 1900, (6, -3900, -741)),
+    ((1, 1, 5), 10_000, (4, 5, 5)),
+    ((-150, -150, 100), 0, (5, -50, 0)),
+    ((-150, -150, 100), 99, (5, -50, 0)),
+    ((-150, -150, 100), 100, (5, -50, -1)),
+    ((-150, -150, 100), 101, (5, -50, -1)),
+    ((-150, -150, 100), 300, (5, -50, -2)),
+    ((-150, -150, 100), 299, (5, -50, -1)),
+    ((-150, -150, 100), 10_000, (5, -50, -50)),
+    ((-150, -151, 100), 9900, (6, -51, -50)),
+    ((0, 0, 50), 99, (4, 50, 0)),
+    ((0, 0, 50), 100, (4, 50, 1)),
+    ((0, 0, 50), 300, (4, 50, 2)),
+    ((0, 0, 1), 5000, (4, 1, 1)),
+    ((0, 0, -1), 5000, (4, -1, -1)),
+    ((0, 0, 1), 4999, (4, 1, 0)),
+    ((0, 0, -1), 4999, (4, -1, 0)),
+    ((LOWEST, 0, LOWEST), 10_000, (5, 2 * LOWEST, 2 * LOWEST)),
+    ((0, LOWEST, LOWEST), 1, (6, 2 * LOWEST, -429_497)),
+    ((HIGHEST, HIGHEST, HIGHEST), 10_000, (4, HIGHEST, HIGHEST)),
+    ((HIGHEST, LOWEST, HIGHEST), 5000, (6, -1, -1)),
+    ((0, -1, 2**24), 9999, (6, 2**24 - 1, 16_775_537)),
+]
 
 
 class Differ(Exception):
@@ -81,6 +116,16 @@ def held(file, field, article):
 def absent(n):
     """Numbers that none of n articles has."""
     return sorted({i for i in (n, n + 1, 63, 64, 2**32, 2**63, FULL) if i >= n})
+
+
+def prices_in(file):
+    """The prices of a file that is in order."""
+    return [article.price for article in rules.read(file, (CHOICE,)).articles]
+
+
+def always_priced(draw):
+    """A price for each article."""
+    return drawn_price(draw) or -1
 
 
 def bound_of(job, field, article):
@@ -145,6 +190,19 @@ def drawn_lists(order, draw):
     yield [number(draw.sample(wishes, draw.randint(1, len(wishes)))) for _ in range(draw.randint(2, 4))]
 
 
+# What is cheapest
+
+
+def repriced(file, prices):
+    job = rules.read(file, (CHOICE,))
+    return written(job._replace(articles=[a._replace(price=price) for a, price in zip(job.articles, prices, strict=True)]))
+
+
+def as_words(selection, total, tax):
+    """A selection, and two numbers with a sign, as words of 64 bits."""
+    return selection, total % 2**64, tax % 2**64
+
+
 # What is asked
 
 
@@ -153,6 +211,7 @@ class Beside:
 
     def __init__(self, library):
         self.ours, self.tally, self.in_turn = Library(library), Counter(), cycle(IN_TURN)
+        self.draw = random.Random(20261121)  # for rates and other prices
 
     def answer(self, words, action, *arguments):
         """The second program's answer, None for a refusal; and status and words that C is to have for it."""
@@ -168,7 +227,7 @@ class Beside:
         lent = slices(arguments)
         self.tally["comparisons"] += 1
         self.tally["null slices"] += lent.count([])
-        ours = self.ours.call(call, *arguments)
+        ours = self.ours.call(call, *arguments, words=len(expected[1]))
         theirs = (*expected, lent if buffer is None else lent[:-1] + [buffer])
         if ours != theirs:
             asked = " ".join(map(in_short, arguments))
@@ -221,6 +280,56 @@ class Beside:
         self.tally["14 at a goal that earlier passes made short"] += not rules.falls_short(job, groups, every, goals[place])
         if floor:
             self.excluded("short goals", file, every)
+
+    def price(self, file, rate):
+        words = lambda found: as_words(number(found[0]), *found[1:])
+        found, (status, told) = self.answer(words, rules.price, file, rate)
+        self.same("price", (file, rate), (status, told if found else (*told, 0)))
+        self.tally[f"price refused {status}" if status else "priced"] += 1
+        if rate in (0, 10_000, 10_001, FULL):
+            self.tally[f"rates of {rate}"] += 1
+        if found:
+            self.count_priced(rules.read(file, (CHOICE,)), *found, rate)
+        elif status == 14:
+            self.not_priced(rules.read(file, (CHOICE,)))
+
+    def count_priced(self, job, selection, total, tax, rate):
+        """Counts what prices came to."""
+        prices = {article.price for article in job.articles}
+        sign = "below zero" if total < 0 else "above zero" if total else "of zero"
+        self.tally["priced with prices"] += prices != {0}
+        self.tally[f"totals {sign}"] += 1
+        if total * rate % 10_000 == 5_000:
+            self.tally[f"halves {sign}"] += 1
+        self.tally["taxes rounded away from zero"] += abs(tax) * 10_000 > abs(total) * rate
+        self.tally["prices of the lowest"] += LOWEST in prices
+        self.tally["prices of the highest"] += HIGHEST in prices
+        self.tally["totals beyond 32 bits"] += not LOWEST <= total <= HIGHEST
+        self.tally["cheapest with article 63"] += 63 in selection
+        self.tally["cheapest of over 10 articles"] += len(job.articles) > rules.FEW
+        if len(job.articles) <= rules.FEW:
+            self.beside_others(job, selection, total)
+
+    def beside_others(self, job, selection, total):
+        """Counts how the cheapest of few articles stands among all selections."""
+        others = [other for other in rules.selections(job) if other != selection]
+        self.tally["ties in total"] += any(rules.cost(job, other) == total for other in others)
+        self.tally["cheapest that is not the smallest"] += any(number(other) < number(selection) for other in others)
+        free = [i for i in selection if job.articles[i].price < 0 and selection - {i} in others]
+        self.tally["trade ins that no wish asks for"] += bool(free)
+
+    def not_priced(self, job):
+        """Counts where the choice tells 14, whose place the price does not tell."""
+        goals = [job.order] if job.order else []
+        place = rules.first_short(job, rules.own_groups(job), goals)
+        self.tally["14 of the price where the choice has another place"] += place > 0
+
+    def both_ways(self, job):
+        """The second program finds the same among all selections as by its search with bounds."""
+        self.tally["cheapest found both ways"] += 1
+        found = rules.cheapest_of_all(job), rules.cheapest_by_bounds(job)
+        if found[0] != found[1] and not rules.FAULT:
+            raise Differ(f"the second program finds {found} of {written(job).hex()}")
 
     def excluded(self, what, file, articles):
         """No selection is made of these articles only. Whether there is one of others."""
@@ -293,6 +402,7 @@ class Beside:
     def compare(self, first, second):
         found, expected = self.answer(lambda alike: (int(alike), 0), rules.compare, first, second)
         self.tally["alike though not the same"] += bool(found) and first != second
+        self.tally["alike though prices differ"] += bool(found) and prices_in(first) != prices_in(second)
         self.same("compare", (first, second), expected)
 
     def save(self, file, change, count):
@@ -325,6 +435,7 @@ class Beside:
         self.tally["longest names saved"] += field == "name" and len(value) == 32
         self.tally["saved into just enough"] += count == words[0]
         self.tally["saved into less than the old file"] += count < len(file)
+        self.tally["saved with prices"] += any(prices_in(file))
 
     def agree(self, what, found, expected):
         """Two files are the same bytes."""
@@ -364,7 +475,7 @@ class Beside:
             self.save(file, change, len(file) + LONGER)
 
     def reading(self, file):
-        """The nine calls that do not save, and in turn one that does, with little else than the file: a refused one has to be
+        """The ten calls that do not save, and in turn one that does, with little else than the file: a refused one has to be
         refused alike by all."""
         self.partition(file, 64)
         self.filter_pass(file, [0] * 64, 0, 1)
@@ -377,6 +488,8 @@ class Beside:
         self.compare(file, A)
         self.compare(A, file)
         self.compare(file, file[:-1])
+        self.price(file, 1900)
+        self.price(file, 10_001)
         self.save(file, next(self.in_turn), len(file) + LONGER)
 
     def choice(self, file, draw):
@@ -400,6 +513,13 @@ class Beside:
         renamed = job._replace(articles=[article._replace(name=drawn_name(draw)) for article in job.articles])
         for other in (renamed, job._replace(order=of(part())), job._replace(articles=job.articles[:-1])):
             self.compare(file, written(other))
+        self.pricing(file)
+
+    def pricing(self, file):
+        """At a rate that halves odd totals, at others, and at one that is too high. A file with other prices is alike."""
+        for rate in (5000, self.draw.choice(RATES), self.draw.randint(0, 10_000), self.draw.choice(TOO_HIGH)):
+            self.price(file, rate)
+        self.compare(file, written(priced(self.draw, rules.read(file, (CHOICE,)))))
 
     def reaching(self, file, draw):
         """Passes and lists of goals, all of them in order, of a file whose order is not empty."""
@@ -450,6 +570,9 @@ class Beside:
             for goals, floor in product(GOALS, [*range(2**n + 1), FULL]):
                 self.faults(false, *(wrong(rules.check_goal, job, of(goal), 0) for goal in goals))
                 self.choose(file, groups, goals, floor)
+        for rate in RATES + TOO_HIGH:
+            self.faults(rate > 10_000, not rules.selections(job))
+            self.price(file, rate)
         for place, bit in product(range(len(file)), range(8)):
             self.compare(file, file[:place] + bytes([file[place] ^ 1 << bit]) + file[place + 1 :])
 
@@ -514,7 +637,8 @@ class Beside:
         self.layer(file, "round", 4, 1)
         for change in (Change("order", None, {63}), Change("wishes", FULL, {63}), Change("clashes", 64, {63}), IN_TURN[-1]):
             self.save(file, change, 1)
-        self.tally["two faults"] += 8
+        self.price(file, FULL)
+        self.tally["two faults"] += 9
 
     def names_in_full(self, file):
         for at in (*range(66), 2**32, 2**63, FULL):
@@ -536,9 +660,31 @@ def stated_names(beside):
                 beside.search(named_steps([name, b"", name]), [name, b"", name], wanted)
 
 
+def stated_prices(beside):
+    """Prices of which it is stated what comes of them; and which fault of a file, of a rate and of an order is told."""
+    for prices, rate, (selection, total, tax) in PRICED:
+        file = repriced(A, prices)
+        beside.same("price", (file, rate), (0, as_words(selection, total, tax)))
+        beside.price(file, rate)
+    short = written(rules.read(P, (CHOICE,))._replace(articles=rules.read(P, (CHOICE,)).articles[:2]))
+    uncarried = written(Choice(2, {0, 1}, [Article({0}, set(), b"", 5), Article({0}, set(), b"")]))
+    zero, cut, bit = P[:-4] + bytes(4), P[:-1], P[:11] + bytes([P[11] | 16]) + P[12:]
+    tries = [(short, 10_000, 14, 0), (uncarried, 0, 14, 0), (short, 10_001, 17, 0), (P, FULL, 17, 0), (F, 0, 1, 0)]
+    tries += [(zero, FULL, 5, len(P) - 4), (cut, FULL, 2, len(P) - 1), (bit, FULL, 4, 11), (P + b"\0", 0, 8, len(P))]
+    for file, rate, reason, place in tries:
+        beside.same("price", (file, rate), (reason, (place, 0, 0)))
+        beside.price(file, rate)
+    if len(P) != 58:
+        raise Differ(f"P has {len(P)} bytes")
+    beside.same("choose", (P, (1, [0, 0, 1]), (8, [3]), 0), (0, (4, 0)))
+    beside.same("compare", (A, P), (0, (1, 0)))
+    beside.same("save_order", (P, 1, (1, [MARK[1]] * 58)), (0, (58, 0)), [*P[:3], 1, *P[4:]])
+
+
 def stated(beside):
     """The files that are stated one by one, and some with a fault. Of the examples without a star, also what the rules say."""
     stated_names(beside)
+    stated_prices(beside)
     cut, longer, too_many = A[:-1], A + b"\0", bytes([CHOICE, 65, 0]) + bytes(8)
     if len(A) != 46:
         raise Differ(f"A has {len(A)} bytes")
@@ -547,7 +693,7 @@ def stated(beside):
     ordered, dropped = [*A[:3], 1, *A[4:]], [*A[:20], 1, *A[21:29], *A[37:]]
     beside.same("save_order", (A, 1, (1, [MARK[1]] * 46)), (0, (46, 0)), ordered)
     beside.same("save_clashes", (A, 1, 0, (1, [MARK[1]] * 38)), (0, (38, 0)), dropped)
-    faulty = [cut, longer, too_many, b"", b"B", N[:-1], F[:-1], M[:-1]]
+    faulty = [cut, longer, too_many, b"", b"B", N[:-1], F[:-1], M[:-1], P[:-1], P[:-4] + bytes(4)]
     for file in CHOICES:
         beside.choice_in_full(file)
         beside.saving_in_full(file)
@@ -598,13 +744,34 @@ def reached(beside):
     beside.filter_pass(MOST, list(range(64)), FULL, FULL)
 
 
+def priced_files(beside):
+    """All small files of a sort at every rate that is stated; drawn files, ones like a catalogue, some of them with 64 articles, and
+    ones of 64 articles with few selections; the longest; and damaged ones."""
+    draw = random.Random(20261119)
+    for file, rate in product(priced_choices(), (0, 5000, 10_000)):
+        beside.price(file, rate)
+    few = [priced(draw, drawn_choice(draw)) for _ in range(1500)]
+    some_more = [grouped_choice(draw, draw.randint(11, 18), draw.randint(3, 5)) for _ in range(150)]
+    wide = [priced(draw, wide_choice(draw)) for _ in range(15)]
+    for job in few + some_more + wide:
+        beside.both_ways(job)
+    many = [grouped_choice(draw, draw.choice([24, 32, 48, 64]), draw.randint(5, 7)) for _ in range(60)]
+    for job in [*few, *some_more, *wide, *many, full_choice()]:
+        beside.pricing(written(job))
+    for _ in range(15):
+        for file in damaged(written(priced(draw, drawn_choice(draw), always_priced)), draw):
+            beside.reading(file)
+
+
 def saved(beside):
-    """Small files, drawn ones, and ones of 64 articles, with drawn changes; and the longest, with changes at the edge."""
-    draw = random.Random(20261116)
+    """Small files, drawn ones, and ones of 64 articles, with drawn changes; and the longest, with changes at the edge. Of the drawn
+    ones every other has prices."""
+    draw, prices = random.Random(20261116), random.Random(20261120)
     for file in over_limits():
         beside.saves(file)
     jobs = [*(rules.read(file, (CHOICE,)) for file in small_choices()), *(drawn_choice(draw) for _ in range(300))]
-    for job in jobs + [wide_choice(draw) for _ in range(10)]:
+    for turn, job in enumerate(jobs + [wide_choice(draw) for _ in range(10)]):
+        job = priced(prices, job) if turn % 2 else job
         file = written(job)
         for _ in range(4):
             beside.saving(file, drawn_change(job, draw, *drawn_place(job, draw)))
@@ -617,10 +784,13 @@ def saved(beside):
 
 
 def run(beside):
-    draw = random.Random(20261115)
+    draw, prices = random.Random(20261115), random.Random(20261120)
     stated(beside)
+    priced_files(beside)
     for file in [A, N, B, NOTHING, *small_choices(), *(written(drawn_choice(draw)) for _ in range(700))]:
         beside.choice(file, draw)
+    for _ in range(150):
+        beside.choice(written(priced(prices, drawn_choice(prices))), prices)
     for file in [F, M, G, H, *small_fittings(), *(written(drawn_fitting(draw)) for _ in range(1500))]:
         beside.fitting(file, draw)
     for _ in range(400):

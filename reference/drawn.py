@@ -7,6 +7,8 @@ from itertools import islice, product
 
 from reader import CHOICE, FITTING, Article, Choice, Fitting, Step, step, written
 
+LOWEST, HIGHEST = -(2**31), 2**31 - 1  # prices
+
 
 def some(draw, bound, chance):
     return {i for i in range(bound) if draw.random() < chance}
@@ -35,8 +37,28 @@ def wide_choice(draw):
 
 def full_choice():
     """The longest file: 64 articles and 64 wishes, each article with all fields that it may have, and names of 32 bytes."""
-    articles = [Article({i, 63}, {0, i - 1} if i else set(), bytes([i]) * 32) for i in range(64)]
+    articles = [Article({i, 63}, {0, i - 1} if i else set(), bytes([i]) * 32, 64 - 3 * i) for i in range(64)]
     return Choice(64, {0, 63}, articles)
+
+
+def drawn_price(draw):
+    """Often none, and often a small one, so that totals are equal; sometimes at the edge."""
+    edges = [LOWEST, LOWEST + 1, HIGHEST, HIGHEST - 1, -1, 1]
+    return draw.choice([0, 0, draw.randint(-3, 3), draw.randint(-3, 3), draw.randint(-500, 5000), draw.choice(edges)])
+
+
+def priced(draw, job, price=drawn_price):
+    """A choice with drawn prices."""
+    return job._replace(articles=[article._replace(price=price(draw)) for article in job.articles])
+
+
+def grouped_choice(draw, n, sorts):
+    """As a catalogue is: n articles of so many sorts, two of one sort exclude each other, and the prices are mostly above 0."""
+    w, sort = draw.randint(3, 12), [draw.randrange(sorts) for _ in range(n)]
+    clashes = [{j for j in range(i) if sort[j] == sort[i] or draw.random() < 0.05} for i in range(n)]
+    articles = [Article(some(draw, w, 0.35), clashes[i], drawn_name(draw)) for i in range(n)]
+    amount = draw.choice([lambda draw: draw.randint(-2, 6), lambda draw: draw.randint(-2000, 90_000), drawn_price])
+    return priced(draw, Choice(w, some(draw, w, 0.8), articles), amount)
 
 
 def drawn_fitting(draw):
@@ -92,6 +114,13 @@ def small_fittings():
     subsets = [set(), {0}]
     for horizon, start, goal, *sets in product(range(3), subsets, subsets, *[subsets] * 6):
         yield written(Fitting(1, horizon, start, goal, [Step(*sets[:3], b""), Step(*sets[3:], b"")]))
+
+
+def priced_choices():
+    """All choice files of two articles and one wish without names, with prices of -1 to 1."""
+    subsets = [set(), {0}]
+    for order, first, second, clash, one, two in product(subsets, subsets, subsets, subsets, (-1, 0, 1), (-1, 0, 1)):
+        yield written(Choice(1, order, [Article(first, set(), b"", one), Article(second, clash, b"", two)]))
 
 
 def damaged(file, draw):

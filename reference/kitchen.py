@@ -13,13 +13,13 @@ import subprocess
 import sys
 from collections import Counter
 
-from drawn import drawn_choice, drawn_fitting, over_limits, small_choices, small_fittings, walk, wide_choice
+from drawn import drawn_choice, drawn_fitting, over_limits, priced, small_choices, small_fittings, walk, wide_choice
 from plans import like_f, row
-from reader import BASES, CHOICE, FITTING, NOTHING, Article, B, Choice, G, H, Refused, counts, written
+from reader import BASES, CHOICE, FITTING, NOTHING, P_NAMED, Article, B, Choice, G, H, P, Refused, counts, written
 from rules import is_plan, offer, plan, shown
 
-# what 64 articles, 64 wishes and names of 32 bytes come to
-LONGEST = written(Choice(64, set(range(64)), [Article(set(range(64)), set(range(i)), b"n" * 32) for i in range(64)]))
+# what 64 articles, 64 wishes, names of 32 bytes and prices come to
+LONGEST = written(Choice(64, set(range(64)), [Article(set(range(64)), set(range(i)), b"n" * 32, -1) for i in range(64)]))
 
 
 def plan_text(file, printed):
@@ -45,7 +45,7 @@ def files():
     """The examples, whole, cut, lengthened and with each byte changed in two ways; jobs at the edges; long input; all small
     files of a sort, and drawn ones."""
     yield "n 65", bytes([CHOICE, 65, 0]) + bytes(8)
-    bases = {**BASES, "B": B, "G": G, "no order": NOTHING}
+    bases = {**BASES, "B": B, "G": G, "no order": NOTHING, "P": P, "P with names": P_NAMED}
     for label, file in bases.items():
         yield label, file
         for n in range(len(file)):
@@ -62,13 +62,14 @@ def files():
     yield "the longest file cut", LONGEST[:-1]
     yield "4,097 bytes", LONGEST + bytes(4097 - len(LONGEST))
     yield "longer input", b"\x43" + bytes(100_000)
-    draw = random.Random(20261115)
+    draw, prices = random.Random(20261115), random.Random(20261120)
     lists = {
         "over a limit": over_limits(),
         "small choice": small_choices(),
         "small fitting": small_fittings(),
         "drawn choice": (written(drawn_choice(draw)) for _ in range(300)),
         "wide choice": (written(wide_choice(draw)) for _ in range(20)),
+        "priced choice": (written(priced(prices, drawn_choice(prices))) for _ in range(100)),
         "drawn fitting": (written(drawn_fitting(draw)) for _ in range(300)),
         "walk": (written(walk(draw, draw.randrange(2, 12), draw.randrange(17))) for _ in range(300)),
         "wide walk": (written(walk(draw, 32, 16)) for _ in range(40)),

@@ -6,6 +6,7 @@ numbers of that many bytes. An empty slice has a null pointer.
 
 import ctypes
 
+UNTOUCHED = 2**64 - 1  # in `out` before a call
 SIZES = {1: ctypes.c_uint8, 4: ctypes.c_uint32, 8: ctypes.c_uint64}
 
 
@@ -22,8 +23,8 @@ class Library:
     def __init__(self, path):
         self.library = ctypes.CDLL(str(path))
 
-    def call(self, name, *arguments):
-        """The status, the two words of `out`, and what each slice holds afterwards."""
+    def call(self, name, *arguments, words=2):
+        """The status, the words of `out`, and what each slice holds afterwards. A word after those of `out` stays as it was."""
         passed, arrays = [], []
         for argument in arguments:
             if isinstance(argument, int):
@@ -34,8 +35,10 @@ class Library:
             array = (SIZES[width] * len(held))(*held)
             passed += [array if held else None, ctypes.c_size_t(len(held))]
             arrays.append(array)
-        out = (ctypes.c_uint64 * 2)(*[2**64 - 1] * 2)
+        out = (ctypes.c_uint64 * (words + 1))(*[UNTOUCHED] * (words + 1))
         function = getattr(self.library, f"kitchen_{name}")
         function.restype = ctypes.c_uint32
         status = function(*passed, out)
-        return status, tuple(out), [list(array) for array in arrays]
+        if out[words] != UNTOUCHED:
+            raise IndexError(f"{name} wrote more than {words} words")
+        return status, tuple(out[:words]), [list(array) for array in arrays]

@@ -8,7 +8,7 @@ from collections import namedtuple
 CHOICE, FITTING = 67, 70
 
 Choice = namedtuple("Choice", "wishes order articles")
-Article = namedtuple("Article", "wishes clashes name")
+Article = namedtuple("Article", "wishes clashes name price", defaults=[0])  # a price in cents, 0 if there is none
 Fitting = namedtuple("Fitting", "facts horizon start goal steps")
 Step = namedtuple("Step", "needs gives takes name")
 
@@ -27,10 +27,11 @@ def stored(s, width):
     return sum(2**i for i in s).to_bytes(width, "little")
 
 
-def record(sets, name, width):
-    """The bit map, then what is marked in it: the sets that have members, and the name if there is one."""
+def record(sets, name, width, price=0):
+    """The bit map, then what is marked in it: the sets that have members, the name if there is one, and a price that is not 0."""
     fields = [stored(s, width) if s else b"" for s in sets]
     fields.append(bytes([len(name)]) + name if name else b"")
+    fields.append(price.to_bytes(4, "little", signed=True) if price else b"")
     marks = sum(2**k for k, field in enumerate(fields) if field)
     return bytes([marks]) + b"".join(fields)
 
@@ -38,7 +39,7 @@ def record(sets, name, width):
 def written(job):
     if isinstance(job, Choice):
         head = bytes([CHOICE, len(job.articles), job.wishes]) + stored(job.order, 8)
-        return head + b"".join(record((a.wishes, a.clashes), a.name, 8) for a in job.articles)
+        return head + b"".join(record((a.wishes, a.clashes), a.name, 8, a.price) for a in job.articles)
     head = bytes([FITTING, len(job.steps), job.facts, job.horizon])
     head += stored(job.start, 4) + stored(job.goal, 4)
     return head + b"".join(record((s.needs, s.gives, s.takes), s.name, 4) for s in job.steps)
@@ -97,9 +98,20 @@ class Reader:
             raise Refused(7, place)
         return self.item(item[0])[0]
 
+    def price(self, marked):
+        """A number of 32 bits with a sign, which is not 0."""
+        if not marked:
+            return 0
+        item, place = self.item(4)
+        if not any(item):
+            raise Refused(5, place)
+        price = sum(byte << 8 * k for k, byte in enumerate(item))
+        return price - 2**32 if price >= 2**31 else price
+
     def article(self, number, wishes):
-        marks = self.marks(3)
-        return Article(self.field(marks[0], 8, wishes), self.field(marks[1], 8, number), self.name(marks[2]))
+        marks = self.marks(4)
+        sets = self.field(marks[0], 8, wishes), self.field(marks[1], 8, number)
+        return Article(*sets, self.name(marks[2]), self.price(marks[3]))
 
     def step(self, facts):
         marks = self.marks(4)
@@ -141,6 +153,11 @@ ARTICLES = [Article({0}, set(), b""), Article({1}, {0}, b""), Article({0, 1}, se
 A = written(Choice(2, {0, 1}, ARTICLES))
 TWIN = written(Choice(2, {0, 1}, [a._replace(name=given) for a, given in zip(ARTICLES, (b"x", b"", b"yz"))]))
 OTHER_ORDER = written(Choice(2, {0}, ARTICLES))
+
+# A with prices: of its selections 4, 5 and 6 the last two cost least, -50 each.
+PRICES = (-150, -150, 100)
+P = written(Choice(2, {0, 1}, [a._replace(price=price) for a, price in zip(ARTICLES, PRICES)]))
+P_NAMED = written(Choice(2, {0, 1}, [a._replace(name=b"x", price=price) for a, price in zip(ARTICLES, (7, 0, -(2**31)))]))
 
 B = written(Choice(3, {0, 1, 2}, [Article({0}, set(), b""), Article({0, 1}, {0}, b""), Article({2}, set(), b"")]))
 
@@ -207,7 +224,7 @@ H = written(
 
 NO_STEP = written(Fitting(2, 1, {1}, {0, 1}, []))
 
-CHOICES = [A, N, B, NOTHING, TWIN, OTHER_ORDER]
+CHOICES = [A, N, B, NOTHING, TWIN, OTHER_ORDER, P, P_NAMED]
 FITTINGS = [F, M, G, H, NO_STEP]
 BASES = {"A": A, "N": N, "F": F, "M": M}  # those that are damaged in every place
 

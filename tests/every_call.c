@@ -1,5 +1,5 @@
 /* Makes every call of kitchen.h on the examples of docs/RULES.md, by the bytes of their files, and compares what it returns,
- * both words of `out` and all of the buffer with what the rules say; every reason is among them, by the header's name.
+ * all words of `out` and all of the buffer with what the rules say; every reason is among them, by the header's name.
  *
  * It prints how many answers of each call were as they have to be, and ends with 0; or what is not, and ends with 1. */
 #include "kitchen.h"
@@ -20,6 +20,13 @@ static const uint8_t A[] = {OF_A}, A_LONGER[] = {OF_A, 0};
 /* the same, where article 2 has the name "ab" */
 #define TWO_NAMED 5, EIGHT(3), 2, 'a', 'b'
 static const uint8_t A_NAMED[] = {A_WITH(3, ONE, TWO_NAMED)};
+/* A with the prices -150, -150 and 100 in cents: of its selections 4, 5 and 6 the last two have the total -50 */
+#define BELOW_ZERO 0x6A, 0xFF, 0xFF, 0xFF
+#define P_WITH(order, ...) 67, 3, 2, EIGHT(order), 9, EIGHT(1), BELOW_ZERO, 11, EIGHT(2), EIGHT(1), BELOW_ZERO, __VA_ARGS__
+static const uint8_t P[] = {P_WITH(3, 9, EIGHT(3), FOUR(100))}, P_ZERO[] = {P_WITH(3, 9, EIGHT(3), FOUR(0))};
+/* an article with nothing but the lowest price, and two with nothing but the highest */
+static const uint8_t LOWEST[] = {67, 1, 0, EIGHT(0), 8, 0, 0, 0, 0x80};
+static const uint8_t HIGHEST[] = {67, 2, 1, EIGHT(1), 8, 0xFF, 0xFF, 0xFF, 0x7F, 9, EIGHT(1), 0xFF, 0xFF, 0xFF, 0x7F};
 /* articles with nothing but a name: 0 is "Büfett" with ü as one character, 5 the same with u and a mark, and 1 "Tür" with u and a mark;
  * 2 is a with marks of two classes, U+0301 and U+0323, and 3 with two of one class, U+0301 and U+0300; 4 is U+212B, which is not covered,
  * 6 is u and the first byte of a mark, which is not UTF-8, and 7 is U+0344 sixteen times */
@@ -45,15 +52,15 @@ static const uint8_t BARE[] = {67, 1, 0, EIGHT(0), 0};
 /* names are its first bytes; cut to one byte, the lengths 256 to 288 would be 0 to 32 */
 static const uint8_t NAME[256 + KITCHEN_NAME_BYTES] = {'n'};
 /* files that are refused */
-static const uint8_t FORBIDDEN[] = {67, 1, 1, EIGHT(0), 8}, EMPTY_FIELD[] = {67, 1, 1, EIGHT(0), 1, EIGHT(0)};
+static const uint8_t FORBIDDEN[] = {67, 1, 1, EIGHT(0), 16}, EMPTY_FIELD[] = {67, 1, 1, EIGHT(0), 1, EIGHT(0)};
 static const uint8_t ABSENT[] = {67, 0, 1, EIGHT(2)}, LONG_NAME[] = {67, 1, 0, EIGHT(0), 4, KITCHEN_NAME_BYTES + 1};
 static const uint8_t NO_NAME[] = {67, 1, 0, EIGHT(0), 4, KITCHEN_NAME_BYTES}, MANY[] = {67, KITCHEN_ARTICLES + 1, 0, EIGHT(0)};
 
 static const uint8_t GROUPS[] = {0, 0, 1};
-static uint64_t out[2];
+static uint64_t out[3];
 static int faults;
 
-enum { NINE = 9, MOST = 70 };
+enum { NINE = 9, MOST = 70, UNTOUCHED = 999 };
 static uint8_t bytes[MOST];
 static uint32_t words[MOST];
 static uint64_t wide[MOST];
@@ -63,7 +70,7 @@ static void clear(void)
 {
     for (int i = 0; i < MOST; i++)
         bytes[i] = NINE, words[i] = NINE, wide[i] = NINE;
-    out[0] = out[1] = NINE * 111;
+    out[0] = out[1] = out[2] = UNTOUCHED;
 }
 
 /* What each buffer has to hold: this number of elements from the front, then zeros up to an index, and nines from there on. */
@@ -84,21 +91,29 @@ static int kept(const uint64_t *front, int count, int zeros, int which)
     return 1;
 }
 
+/* The words of `out`. A call that has two leaves the third as it was. */
+struct words {
+    uint64_t first, second, third;
+};
+
 /* One call: what it returned, the words of `out`, and what the buffer whose elements have `which` bytes holds from the front. */
-static void see(int line, uint32_t found, uint32_t status, uint64_t first, uint64_t second, int which, const uint64_t *front, int count, int zeros)
+static void see(int line, uint32_t found, uint32_t status, struct words told, int which, const uint64_t *front, int count, int zeros)
 {
-    if (found == status && out[0] == first && out[1] == second && kept(front, count, zeros, which))
+    if (found == status && out[0] == told.first && out[1] == told.second && out[2] == told.third && kept(front, count, zeros, which))
         return;
-    printf("tests/every_call.c:%d: returned %u, out %llu %llu; expected %u, %llu %llu, and buffers as the rules say\n", line, (unsigned)found,
-           (unsigned long long)out[0], (unsigned long long)out[1], (unsigned)status, (unsigned long long)first, (unsigned long long)second);
+    printf("tests/every_call.c:%d: returned %u, out %llu %llu %llu; expected %u, %llu %llu %llu, and buffers as the rules say\n", line,
+           (unsigned)found, (unsigned long long)out[0], (unsigned long long)out[1], (unsigned long long)out[2], (unsigned)status,
+           (unsigned long long)told.first, (unsigned long long)told.second, (unsigned long long)told.third);
     faults++;
 }
 
 #define NUMBERS(...) ((const uint64_t[]){__VA_ARGS__})
-/* a call that fills the front of a buffer, and one that touches none */
+#define WORDS(...) ((struct words){__VA_ARGS__})
+/* a call that fills the front of a buffer, one that touches none, and one that has three words of `out` */
 #define FILLS(call, first, which, zeros, ...) \
-    (clear(), see(__LINE__, call, KITCHEN_ANSWERED, first, 0, which, NUMBERS(__VA_ARGS__), (int)(sizeof NUMBERS(__VA_ARGS__) / sizeof(uint64_t)), zeros), seen++)
-#define GIVES(call, status, first, second) (clear(), see(__LINE__, call, status, first, second, 0, NULL, 0, 0), seen++)
+    (clear(), see(__LINE__, call, KITCHEN_ANSWERED, WORDS(first, 0, UNTOUCHED), which, NUMBERS(__VA_ARGS__), (int)(sizeof NUMBERS(__VA_ARGS__) / sizeof(uint64_t)), zeros), seen++)
+#define GIVES(call, status, first, second) (clear(), see(__LINE__, call, status, WORDS(first, second, UNTOUCHED), 0, NULL, 0, 0), seen++)
+#define PRICES(call, status, first, total, tax) (clear(), see(__LINE__, call, status, WORDS(first, (uint64_t)(total), (uint64_t)(tax)), 0, NULL, 0, 0), seen++)
 
 static int version(void)
 {
@@ -170,6 +185,30 @@ static int choose(void)
     GIVES(kitchen_choose(SLICE(APART), SLICE(GROUPS), SLICE(NUMBERS(1, 2, 1)), 0, out), KITCHEN_NO_SELECTION, 1, 0);
     GIVES(kitchen_choose(SLICE(APART), SLICE(GROUPS), NULL, 0, 0, out), KITCHEN_NO_SELECTION, 0, 0);
     GIVES(kitchen_choose(SLICE(BYTES(67, 0, 0, EIGHT(0))), NULL, 0, NULL, 0, 0, out), 0, 0, 0);
+    return seen;
+}
+
+static int price(void)
+{
+    int seen = 0;
+    PRICES(kitchen_price(SLICE(P), 0, out), 0, 5, -50, 0);
+    PRICES(kitchen_price(SLICE(P), 99, out), 0, 5, -50, 0);
+    PRICES(kitchen_price(SLICE(P), 100, out), 0, 5, -50, -1); /* half a cent, away from zero */
+    PRICES(kitchen_price(SLICE(P), 1900, out), 0, 5, -50, -10);
+    PRICES(kitchen_price(SLICE(P), KITCHEN_RATE, out), 0, 5, -50, -50);
+    PRICES(kitchen_price(SLICE(A), 1900, out), 0, 4, 0, 0);
+    PRICES(kitchen_price(SLICE(LOWEST), 5000, out), 0, 1, -2147483648LL, -1073741824LL);
+    PRICES(kitchen_price(SLICE(HIGHEST), 5000, out), 0, 2, 2147483647LL, 1073741824LL); /* 1073741823.5 */
+    PRICES(kitchen_price(SLICE(APART), 1900, out), KITCHEN_NO_SELECTION, 0, 0, 0);
+    PRICES(kitchen_price(SLICE(APART), KITCHEN_RATE + 1, out), KITCHEN_HIGH_RATE, 0, 0, 0);
+    PRICES(kitchen_price(SLICE(P), ((uint64_t)1 << 32) + 1, out), KITCHEN_HIGH_RATE, 0, 0, 0);
+    PRICES(kitchen_price(SLICE(P), UINT64_MAX, out), KITCHEN_HIGH_RATE, 0, 0, 0);
+    PRICES(kitchen_price(P, sizeof P - 1, UINT64_MAX, out), KITCHEN_ENDS_EARLY, sizeof P - 1, 0, 0);
+    PRICES(kitchen_price(SLICE(P_ZERO), UINT64_MAX, out), KITCHEN_EMPTY_FIELD, sizeof P - 4, 0, 0);
+    PRICES(kitchen_price(SLICE(FORBIDDEN), UINT64_MAX, out), KITCHEN_FORBIDDEN_BIT, 11, 0, 0);
+    PRICES(kitchen_price(SLICE(F), 1900, out), KITCHEN_WRONG_KIND, 0, 0, 0);
+    PRICES(kitchen_price(NULL, 0, 1900, out), KITCHEN_WRONG_KIND, 0, 0, 0);
+    PRICES(kitchen_price(SLICE(BYTES(67, 0, 0, EIGHT(0))), 1900, out), 0, 0, 0, 0);
     return seen;
 }
 
@@ -247,6 +286,7 @@ static int compare(void)
     int seen = 0;
     GIVES(kitchen_compare(SLICE(A), SLICE(A_NAMED), out), 0, 1, 0);
     GIVES(kitchen_compare(SLICE(A), SLICE(B), out), 0, 0, 0);
+    GIVES(kitchen_compare(SLICE(A), SLICE(P), out), 0, 1, 0);
     GIVES(kitchen_compare(A, sizeof A - 1, SLICE(F), out), KITCHEN_ENDS_EARLY, 45, 0);
     GIVES(kitchen_compare(SLICE(A), SLICE(F), out), KITCHEN_WRONG_KIND, 0, 0);
     return seen;
@@ -258,6 +298,7 @@ static int save_order(void)
     FILLS(kitchen_save_order(SLICE(A), 1, bytes, 46, out), 46, 1, 0, A_WITH(1, ONE, TWO));
     FILLS(kitchen_save_order(SLICE(A), 0, bytes, MOST, out), 46, 1, 0, A_WITH(0, ONE, TWO));
     FILLS(kitchen_save_order(SLICE(A_NAMED), 3, bytes, 49, out), 49, 1, 0, A_WITH(3, ONE, TWO_NAMED));
+    FILLS(kitchen_save_order(SLICE(P), 1, bytes, 58, out), 58, 1, 0, P_WITH(1, 9, EIGHT(3), FOUR(100)));
     GIVES(kitchen_save_order(SLICE(A), 1, bytes, 45, out), KITCHEN_SHORT_BUFFER, 0, 0);
     GIVES(kitchen_save_order(SLICE(A), 4, NULL, 0, out), KITCHEN_ABSENT_MEMBER, 3, 0);
     GIVES(kitchen_save_order(A, sizeof A - 1, 4, bytes, MOST, out), KITCHEN_ENDS_EARLY, 45, 0);
@@ -298,6 +339,7 @@ static int save_name(void)
     int seen = 0;
     FILLS(kitchen_save_name(SLICE(A), 2, SLICE(BYTES('a', 'b')), bytes, 49, out), 49, 1, 0, A_WITH(3, ONE, TWO_NAMED));
     FILLS(kitchen_save_name(SLICE(A_NAMED), 2, NULL, 0, bytes, 46, out), 46, 1, 0, OF_A);
+    FILLS(kitchen_save_name(SLICE(P), 2, SLICE(BYTES('a', 'b')), bytes, 61, out), 61, 1, 0, P_WITH(3, 13, EIGHT(3), 2, 'a', 'b', FOUR(100)));
     FILLS(kitchen_save_name(SLICE(BARE), 0, NAME, KITCHEN_NAME_BYTES, bytes, 45, out), 45, 1, 45, 67, 1, 0, EIGHT(0), 4, 32, 'n');
     GIVES(kitchen_save_name(SLICE(A), 2, SLICE(BYTES('a', 'b')), bytes, 48, out), KITCHEN_SHORT_BUFFER, 0, 0);
     GIVES(kitchen_save_name(SLICE(A), 1, NAME, KITCHEN_NAME_BYTES + 1, bytes, MOST, out), KITCHEN_LONG_NAME, 37, 0);
@@ -315,6 +357,7 @@ int main(void)
     printf("kitchen_partition: %d, ", partition());
     printf("kitchen_pass: %d, ", pass());
     printf("kitchen_choose: %d, ", choose());
+    printf("kitchen_price: %d, ", price());
     printf("kitchen_fact_layer: %d, ", fact_layer());
     printf("kitchen_round_layer: %d, ", round_layer());
     printf("kitchen_plan: %d, ", plan());

@@ -93,6 +93,7 @@ WRONG_HEADERS = {
     "no parameters": ("uint32_t kitchen_version(void)", "uint32_t kitchen_version()", BOTH),
     "an argument too many": ("uint64_t number, uint64_t out[2]", "uint64_t number, uint64_t kind, uint64_t out[2]", BOTH),
     "out of three words": ("uint64_t number, uint64_t out[2]", "uint64_t number, uint64_t out[3]", WORDS),
+    "a price of two words": ("uint64_t rate, uint64_t out[3]", "uint64_t rate, uint64_t out[2]", WORDS),
     "a function of another name": ("kitchen_compare(const", "kitchen_compares(const", BOTH),
     "a call of the interface left out": ("uint32_t kitchen_version(void);", "", BOTH),
     "a function too many": ("uint32_t kitchen_version(void);", "uint32_t kitchen_version(void);\nuint32_t kitchen_news(void);", WORDS),
@@ -130,6 +131,9 @@ def every_call(folder):
         ("a longer name", "", changed(HEADER, "KITCHEN_NAME_BYTES = 32", "KITCHEN_NAME_BYTES = 33"), program, 1),
         ("a layer of fewer words", "", changed(HEADER, "KITCHEN_ROUND_WORDS = 64", "KITCHEN_ROUND_WORDS = 63"), program, 1),
         ("another answer", "expected 0, 7 3", HEADER, changed(program, "7, 7, out), 0, 6, 3)", "7, 7, out), 0, 7, 3)"), 1),
+        ("another number for a rate", "", changed(HEADER, "KITCHEN_HIGH_RATE = 17", "KITCHEN_HIGH_RATE = 18"), program, 1),
+        ("another tax", "expected 0, 5 ", HEADER, changed(program, "5, -50, -1); /* half", "5, -50, 0); /* half"), 1),
+        ("a third word that a call of two has", " 999, and buffers", HEADER, changed(program, "PRICES(kitchen_price(SLICE(A), 1900, out), 0, 4, 0, 0)", "GIVES(kitchen_price(SLICE(A), 1900, out), 0, 4, 0)"), 1),
         ("another buffer", "buffers", HEADER, changed(program, "2, 4, 0, 1, 6)", "2, 4, 0, 1, 7)"), 1),
         ("a buffer that is not kept", "buffers", HEADER, changed(program, "2, 4, 0, 2, 1)", "2, 4, 0, 2, 1, 0)"), 1),
     ]

@@ -265,12 +265,12 @@ def one_set_of_names(functions, shared):
 
 
 def named_numbers(text, shared):
-    """The reasons of the header go from 0 to 16, and its limits are those of the rules and of the library."""
+    """The reasons of the header go from 0 to 17, and its limits are those of the rules and of the library."""
     reasons, limits = (dict(re.findall(r"^    KITCHEN_(\w+) = (\d+)", block, re.M)) for block in re.findall(r"^enum \{\n(.*?)^\};", text, re.M | re.S))
-    demand(list(map(int, reasons.values())) == list(range(17)), f"the header's reasons are {reasons}")
+    demand(list(map(int, reasons.values())) == list(range(18)), f"the header's reasons are {reasons}")
     limits = {name: int(value) for name, value in limits.items()}
-    name_field = 1 + limits["NAME_BYTES"]
-    longest = (11 + limits["ARTICLES"] * (1 + 2 * 8 + name_field), 12 + limits["STEPS"] * (1 + 3 * 4 + name_field))
+    name_field, price = 1 + limits["NAME_BYTES"], 4
+    longest = (11 + limits["ARTICLES"] * (1 + 2 * 8 + name_field + price), 12 + limits["STEPS"] * (1 + 3 * 4 + name_field))
     demand((limits["LONGEST_CHOICE"], limits["LONGEST_FITTING"], limits["LONGEST"]) == (*longest, max(longest)), f"the longest files have {longest} bytes")
     library, out = ctypes.CDLL(shared), (ctypes.c_uint64 * 2)()
     for kind, place, limit in ((67, 1, "ARTICLES"), (67, 2, "WISHES"), (70, 1, "STEPS"), (70, 2, "FACTS"), (70, 3, "ROUNDS")):
@@ -278,11 +278,15 @@ def named_numbers(text, shared):
             file = bytes([kind, 0, 0, 0][:place] + [count])
             refused = library.kitchen_find(file, ctypes.c_size_t(len(file)), None, ctypes.c_size_t(0), out), out[0]
             demand(refused == ((2, len(file)) if count == limits[limit] else (3, place)), f"{limit} {count}: refused {refused}")
+    nothing, three = bytes([67, *[0] * 10]), (ctypes.c_uint64 * 3)()
+    for rate, reason in ((limits["RATE"], 0), (limits["RATE"] + 1, 17)):
+        refused = library.kitchen_price(nothing, ctypes.c_size_t(len(nothing)), ctypes.c_uint64(rate), three)
+        demand(refused == reason, f"RATE {rate}: refused {refused}")
     return len(reasons) + len(limits)
 
 
 def header():
-    """include/kitchen.h declares the functions of capi with their types and no others, has its number, its reasons and its limits, and is plain C; the two programs in it run, and its lines that save do."""
+    """include/kitchen.h declares the functions of capi with their types and no others, has its number, its reasons and its limits, and is plain C; the two programs in it run, and its lines that price and that save do."""
     text, number = interface()
     capi = (ROOT / "crates" / "capi" / "src" / "lib.rt").read_text()
     functions = list(c_interface.declarations(text))
@@ -293,14 +297,15 @@ def header():
     one_number(number, capi, shared)
     named = named_numbers(text, shared)
     run(["cc", "-std=c99", *STRICT, "-fsyntax-only", "-x", "c", "include/kitchen.h"])
-    in_c, in_python, saves = shown(text)
+    in_c, in_python, prices, saves = shown(text)
     (ROOT / "target" / "first.c").write_text(in_c)
     (ROOT / "target" / "first.py").write_text(in_python)
     run(["cc", "-std=c99", *STRICT, "target/first.c", archive, "-o", "target/first"])
     first_program(["target/first"])
     first_program([sys.executable, "-B", "target/first.py"])
+    pricing_lines(prices, archive)
     saving_lines(saves, archive)
-    return len(functions) + named + 3
+    return len(functions) + named + 4
 
 
 def every_call():
@@ -314,10 +319,10 @@ def every_call():
 
 
 def shown(text):
-    """The programs in C and in Python in the header's comment, after the command that builds the library; and last the lines in C that save."""
+    """The programs in C and in Python in the header's comment, after the command that builds the library; and last the lines in C that price, and those that save."""
     blocks = [re.sub(r"^ \*     ", "", block, flags=re.M) for block in re.findall(r"(?:^ \*     .*\n)+", text, re.M)]
-    found = len(blocks) == 4 and blocks[0] == "tools/library\n" and "kitchen_save_order" in blocks[3]
-    demand(found, "the header shows how to build, a program in C, one in Python, and how to save")
+    found = len(blocks) == 5 and blocks[0] == "tools/library\n" and "kitchen_price" in blocks[3] and "kitchen_save_order" in blocks[4]
+    demand(found, "the header shows how to build, a program in C, one in Python, how to price and how to save")
     return blocks[1:]
 
 
@@ -332,6 +337,27 @@ int main(void)
 %s    return 0;
 }
 """
+
+
+PRICES = """#include "kitchen.h"
+#include <inttypes.h>
+#include <stdio.h>
+int main(void)
+{
+    uint8_t file[KITCHEN_LONGEST + 1];
+    uint64_t rate = 1900;
+    size_t len = fread(file, 1, sizeof file, stdin);
+%s    return 0;
+}
+"""
+
+
+def pricing_lines(lines, archive):
+    """The header's lines that price, in a program around them, tell the total and the tax of the sample with prices."""
+    (ROOT / "target" / "prices.c").write_text(PRICES % textwrap.indent(lines, "    "))
+    run(["cc", "-std=c99", *STRICT, "target/prices.c", archive, "-o", "target/prices"])
+    printed = fed(["target/prices"], sample("prices"))
+    demand(printed == "164450 and 31246\n", f"the header's lines that price print {printed}")
 
 
 def saving_lines(lines, archive):
@@ -503,7 +529,7 @@ def beside():
 
 def faults():
     """Each mistake that the second program makes on purpose is found."""
-    planted = range(1, 17)
+    planted = range(1, 26)
     for fault in planted:
         printed = run([sys.executable, "-B", "reference/beside.py", built_library()[1], "--fault", str(fault)], status=1)
         demand(re.search(r"^the second program .*; after \d+ comparisons: ", printed), f"fault {fault}: {printed}")

@@ -26,7 +26,7 @@ from showroom.page import STYLE, element, page  # noqa: E402
 from showroom.rules import both_ways  # noqa: E402
 from showroom.telling import told  # noqa: E402
 from showroom.texts import Text, stated  # noqa: E402
-from showroom.words import called, names_of, printed, series  # noqa: E402
+from showroom.words import called, money, names_of, printed, series  # noqa: E402
 
 checks = 0
 failures = []
@@ -77,6 +77,8 @@ MADE = {
     "no article": "choice\nwishes: a, b\norder: b\n",
     "no wish": "choice\nwishes:\norder:\narticle A\narticle B\n clashes: A\n",
     "no order": "choice\nwishes: a\norder:\narticle A\n wishes: a\n",
+    "prices": "choice\nwishes: a, b\norder: a\narticle A\n wishes: a\n price: 12.5\narticle B\n clashes: A\narticle C\n price: -21474836.48\n",
+    "prices in vain": "choice\nwishes: a\norder: a\narticle A\n price: 0.01\narticle B\n price: 0\n",
     "one wish": "choice\nwishes: a, b\norder: a, b\narticle A\n wishes: a\n",
     "two in vain": "choice\nwishes: a, b, c, d\norder: a, b, c, d\narticle A\n wishes: a\narticle B\n wishes: b\n clashes: A\n"
     "article C\n wishes: c\narticle D\n wishes: d\n clashes: C\n",
@@ -132,7 +134,9 @@ def random_text(source):
 
     count, members = source.choice((0, 1, 3, 9)), source.choice((0, 1, 3, 6))
     if source.random() < 0.5:
-        articles = [kitchen.article(some(members), some(number), name()) for number in range(count)]
+        priced = source.random() < 0.5
+        price = lambda: source.choice((0, 5, -5, 12990, -(2**31), 2**31 - 1)) if priced else 0
+        articles = [kitchen.article(some(members), some(number), name(), price()) for number in range(count)]
         job = kitchen.choice(members, some(members), articles)
     else:
         steps = [kitchen.step(some(members), some(members), some(members), name()) for _ in range(count)]
@@ -169,6 +173,14 @@ def lines_of(root):
     return {evened(text) for text in found}
 
 
+def prices_in(table):
+    """The texts of the cells that have prices, by row; those of each row are as many as the headers that say so."""
+    found = [[cell.text or "" for cell in row if cell.get("class") == "price"] for row in table.find("tbody")]
+    heads = [cell.text for cell in table.find("thead/tr")].count("Price")
+    check(all(len(row) == heads for row in found), f"a header for each column of prices: {found}, {heads}")
+    return [text for row in found for text in row]
+
+
 def tables(root):
     return {table.findtext("caption"): table for table in root.iter("table")}
 
@@ -189,7 +201,7 @@ def grid(table, word):
         rows.append(name)
         chosen |= {number} if taken else set()
         words += [cell.text for cell in cells if cell.get("class") == "word"]
-        for column, cell in enumerate(cell for cell in cells if cell.get("class") != "word"):
+        for column, cell in enumerate(cell for cell in cells if cell.get("class") not in ("word", "price")):
             text, signs = held(cell)
             check(signs in ([], [word]) and not text, f"a cell of {name}: {text!r} {signs}")
             marks |= {(number, column)} if signs else set()
@@ -266,6 +278,9 @@ def choice_page(label, text, answer, found, root):
             word = {number: word for word, numbers in sets for number in numbers}
             standing = [word[number] for number in range(len(articles))]
         equal(words, standing, f"{label}: the standing of articles")
+        prices = [money(record.price) if record.price else "" for record in job.records]
+        shown_prices = prices_in(shown["Which article carries which wish"])
+        equal(shown_prices, prices if any(prices) else [], f"{label}: the prices")
     clashes = {(u, v) for u, others in enumerate(both_ways(job.records)) for v in others}
     equal("Which articles exclude each other" in shown, bool(clashes), f"{label}: a grid of clashes")
     if "Which articles exclude each other" in shown:

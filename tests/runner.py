@@ -19,7 +19,7 @@ echo "$(basename "$0") $*" >> "$CALLS"
 case "$(basename "$0") $*" in
 'rt ci') rm -rf target; cat "$REPORT"; exit "$STATUS" ;;
 rustc*) printf '#!/bin/sh\\necho "measured $*"\\n' > target/bench/bench; chmod +x target/bench/bench ;;
-*' install '*) for name in clasp gringo cadical; do cp "$0" "$(dirname "$0")/$name"; done ;;
+*' install '*) for name in clasp gringo cadical cbc; do cp "$0" "$(dirname "$0")/$name"; done ;;
 esac
 """
 
@@ -261,11 +261,13 @@ def peers_of_the_bench(copy):
     equal((status, printed), (0, "measured --family a b --quick\n"), "./bench measures without the peers")
     equal(errors.rstrip().endswith(": clasp gringo cadical"), True, f"./bench says which are missing: {errors}")
     equal("apt-get" in calls, False, "./bench installs nothing unasked")
+    _, _, errors, _ = copy.run(["./bench", "--prices"])
+    equal(errors.rstrip().endswith(": clasp gringo cbc"), True, f"./bench --prices says which are missing: {errors}")
     equal(copy.run(["./bench", "--no-peers"])[1:3], ("measured --no-peers\n", ""), "./bench --no-peers misses none")
     status, printed, _, calls = copy.run(["./bench", "--install-peers", "--quick"])
     equal((status, printed), (0, "measured --quick\n"), "./bench --install-peers")
-    equal("apt-get -qq install -y clasp gringo cadical\n" in calls, True, f"./bench --install-peers installs them: {calls}")
-    for name in ("clasp", "gringo", "cadical"):
+    equal("apt-get -qq install -y clasp gringo cadical coinor-cbc\n" in calls, True, f"./bench --install-peers installs them: {calls}")
+    for name in ("clasp", "gringo", "cadical", "cbc"):
         (copy.tools / name).unlink()
     copy.tool("apt-get", "#!/bin/sh\nexit 1\n")
     equal(copy.run(["./bench", "--install-peers"])[:2], (2, ""), "./bench --install-peers where they can't be had")

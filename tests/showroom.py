@@ -47,7 +47,7 @@ TOOL = ROOT / "tools" / "job"
 KITCHEN = ROOT / "target" / "bin" / "kitchen"
 LIBRARY = ROOT / "target" / "lib" / "libkitchen.so"
 SAMPLES = sorted((ROOT / "jobs").glob("*.txt"))
-ANSWERS = ("No such", "A kitchen of", "A plan of", "needs no article", "takes no round", "Counting the wishes", "How far")
+ANSWERS = ("No such", "A kitchen of", "A plan of", "needs no article", "takes no round", "Counting the wishes", "How far", "cheapest kitchen, of")
 MOST_SHOWN = 10  # failures of a section
 ROOM = 4096  # bytes, more than any file has
 MOST_SELECTIONS = 2**6 + 1  # more than any job has whose selections are all looked at
@@ -254,6 +254,10 @@ def drawn_choice(draw, articles, wishes):
     return renamed(draw, kitchen.choice(w, draws.some(draw, w, draw.choice([0.5, 0.8, 1])), records))
 
 
+def with_prices(draw, job):
+    return job._replace(records=[record._replace(price=draws.drawn_price(draw)) for record in job.records])
+
+
 def tight_choice(draw, articles, wishes):
     """Each article carries a wish or two, all wishes are ordered, and many articles clash: several wishes are in conflict."""
     n, w = draw.randrange(2, articles + 1), draw.randrange(2, wishes + 1)
@@ -443,7 +447,9 @@ def misuse(tally):
         ["ask", "--next", "x", one], ["ask", "--next", "-1", one], ["ask", "-", "-"], ["ask", one, "--order"],
         ["ask", "--nex", "1", one], ["advise"], ["advise", one, plan], ["advise", "--order", "no hood", plan],
         ["advise", "--json", one], ["advise", "--bound", plan], ["ask", "--bound", one], ["page", "--bound", one],
-        ["advise", one, "--bound", "2"], ["advise", "--bound=2", one],
+        ["advise", one, "--bound", "2"], ["advise", "--bound=2", one], ["ask", "--rate", "19", plan], ["ask", one, plan, "--rate", "19"],
+        ["ask", "--rate", "x", one], ["ask", "--rate", "100.01", one], ["ask", "--rate", "-1", one], ["advise", "--rate", "19", one],
+        ["page", "--rate", "19", one], ["ask", "--rat", "19", one], ["ask", one, "--rate"],
     ):  # fmt: skip
         status, output, errors = called(*arguments)
         equal((status, output), (2, ""), f"{arguments}: misuse, {errors}")
@@ -506,7 +512,7 @@ def json_lines(tally, faulty, missing, short, larder):
         equal(found.pop("text"), str(path), "the text of a line of JSON")
         json_as_second(path, found)
         tally["lines of json"] += 1
-    for path, status in zip(paths, (0, 0, 0, 3, 0, 3, 3, 1, 1)):
+    for path, status in zip(paths, (0, 0, 0, 3, 0, 0, 3, 3, 1, 1), strict=True):
         equal(called("ask", "--json", path)[:2], (status, lines[paths.index(path)] + "\n"), f"json of {path.name}")
     status, output, _ = called("ask", "--json", "--next", "1", sample("A"))
     further = json.loads(output)["further"]
@@ -782,7 +788,8 @@ def unusable_programs(tally, tree, path):
 
 @section(
     "drawn", "kitchens", "no kitchens", "no rounds", "plans", "long plans", "no plans", "set aside", "through the command line",
-    "other selections not taken", "other plans taken", "other plans not taken", "falls short", "does not fall short"
+    "other selections not taken", "other plans taken", "other plans not taken", "falls short", "does not fall short",
+    "with prices that are not asked for"
 )  # fmt: skip
 def drawn(tally, folder):
     draw = random.Random(20261116)
@@ -790,6 +797,7 @@ def drawn(tally, folder):
     jobs += [drawn_fitting(draw, 5, 6, 6) for _ in range(260)] + [drawn_fitting(draw, 7, 4, 4) for _ in range(40)]
     jobs += [chain(draw, draw.randrange(1, 9), draw.randrange(1, 10)) for _ in range(40)]
     jobs += [ours_of(draws.walk(draw, draw.randrange(2, 9), draw.randrange(17))) for _ in range(40)]
+    jobs += [with_prices(draw, drawn_choice(draw, 8, 7)) for _ in range(60)]
     for number, job in enumerate(jobs):
         job = renamed(draw, job)
         text = text_of(job)
@@ -807,6 +815,7 @@ def drawn(tally, folder):
         tally[outcome(output)] += 1
         tally["long plans"] += outcome(output) == "plans" and len(rows(output)) > 3
         tally["set aside"] += "Set aside at once" in output
+        tally["with prices that are not asked for"] += any(record.price for record in job.records)
         tally["falls short"] += tool.COUNTED[0][0] in output
         tally["does not fall short"] += tool.COUNTED[1][0] in output
 
@@ -1223,6 +1232,138 @@ def bound_libraries(tally, folder):
         tally["libraries that are not used"] += 1
 
 
+# ---- what the cheapest costs
+
+
+def second_priced(job, rate):
+    """The second program's answer; None if there is no selection."""
+    try:
+        return kitchen.Priced(*rules.price(kitchen.written(job), rate))
+    except reader.Refused as refusal:
+        equal((refusal.reason, refusal.place), (14, 0), f"a price of {job}")
+        return None
+
+
+def amount(cents):
+    return f"{'-' * (cents < 0)}{abs(cents) // 100}.{abs(cents) % 100:02}"
+
+
+def with_cheapest(text, asked, rate, expected):
+    """What ask tells, with the cheapest kitchen after it: its articles, its total and its tax."""
+    status, output, errors = asked
+    if expected is None:
+        return status, output.splitlines(), errors
+    order, found = len(expected.articles), article_rows(text, expected.articles)
+    prices = [text.job.records[number].price for number in sorted(expected.articles)]
+    prices = [amount(price) if price else "-" for price in prices]
+    lines = [f"The cheapest kitchen, of {order} article{'s' * (order != 1)}:"]
+    lines += [" ".join([name, price, *wishes.split()]) for (name, wishes), price in zip(found, prices)]
+    total = f"Its total is {amount(expected.total)}, and the tax of {rate} percent on it is {amount(expected.tax)}."
+    return status, [*output.splitlines(), *lines, total], errors
+
+
+def evened(found, told):
+    """A call's outcome in lines; after those that are told without a rate blanks do not count."""
+    status, output, errors = found
+    lines, count = output.splitlines(), len(told[1].splitlines())
+    return status, lines[:count] + [" ".join(line.split()) for line in lines[count:]], errors
+
+
+@section(
+    "price", "priced", "below zero", "not the smallest", "ties", "halves", "no kitchens", "command lines", "lines of json", "lies",
+    "honest", "libraries that are not used"
+)  # fmt: skip
+def prices(tally, folder):
+    draw, path = random.Random(17), folder / "price.txt"
+    jobs = [with_prices(draw, drawn_choice(draw, 8, 6)) for _ in range(250)] + [with_prices(draw, tight_choice(draw, 8, 5)) for _ in range(50)]
+    jobs += [renamed(draw, ours_of(draws.grouped_choice(draw, 30, 5))) for _ in range(10)]
+    for number, job in enumerate(jobs):
+        percent, rate = draw.choice([("0", 0), ("0.01", 1), ("7.5", 750), ("19", 1900), ("50", 5000), ("50", 5000), ("100", 10_000)])
+        label = f"{percent} percent of {number}, {kitchen.written(job).hex()}"
+        expected = second_priced(job, rate)
+        what_it_came_to(tally, job, rate, expected)
+        if number % 6 and expected is not None:
+            equal(asking.cheapest(job, rate, asking.asked(job)), expected, label)
+            continue
+        path.write_text(job_text(job))
+        call, told = ["ask", "--rate", percent, path], called("ask", path)
+        found = ran([TOOL, *call]) if number % 24 == 0 else called(*call)
+        equal(evened(found, told), with_cheapest(text_of(job), told, percent, expected), f"{label}: in words")
+        tally["command lines"] += 1
+    asked_as_json(tally, folder)
+    lies_about_prices(tally)
+    price_libraries(tally, folder)
+
+
+def what_it_came_to(tally, job, rate, expected):
+    if expected is None:
+        tally["no kitchens"] += 1
+        return
+    state = reader.read(kitchen.written(job))
+    others = [other for other in rules.selections(state) if other != expected.articles] if len(job.records) < 10 else []
+    tally["priced"] += 1
+    tally["below zero"] += expected.total < 0
+    tally["not the smallest"] += any(rules.number(other) < rules.number(expected.articles) for other in others)
+    tally["ties"] += any(rules.cost(state, other) == expected.total for other in others)
+    tally["halves"] += expected.total * rate % 10_000 == 5_000
+
+
+def asked_as_json(tally, folder):
+    """The cheapest kitchen for programs, in cents; only with a rate, and only if there is a kitchen."""
+    short = larder_in(folder)
+    status, output, _ = called("ask", "--json", "--rate", "19", sample("prices"), sample("A"), short)
+    with_one, without, none = map(json.loads, output.splitlines())
+    numbers = [(article["number"], article["price"]) for article in with_one["cheapest"]["articles"]]
+    equal(numbers, [(0, 64900), (3, 15850), (4, 91200), (5, -7500)], "the cheapest kitchen of the sample")
+    equal((with_one["cheapest"]["total"], with_one["cheapest"]["tax"]), (164450, 31246), "its total and its tax")
+    cheapest = without["cheapest"]
+    equal((cheapest["total"], cheapest["tax"], [article["number"] for article in cheapest["articles"]]), (0, 0, [2]), "without prices")
+    equal((status, "cheapest" in none), (3, False), "no kitchen, and so no price")
+    check("cheapest" not in json.loads(called("ask", "--json", sample("prices"))[1]), "without a rate nothing is priced")
+    equal(called("ask", "--rate", "19", short), called("ask", short), "no kitchen, with a rate")
+    status, output, _ = called("ask", "--next", "1", "--rate", "19", sample("prices"))
+    check(status == 0 and output.index("Further kitchen 1") < output.index("The cheapest kitchen, of 4"), f"both: {output}")
+    tally["lines of json"] += 3
+
+
+def lies_about_prices(tally):
+    """A library that answers anything else, or refuses, is not believed: status 1, and nothing is told."""
+    path, true = sample("prices"), kitchen.Library.price
+    text = stated(path.read_bytes())
+    right, told, draw = second_priced(text.job, 1900), called("ask", path), random.Random(19)
+    try:
+        for answer in tool.wrong_prices(draw, reader.read(kitchen.written(text.job)), right):
+            if answer == right:
+                continue
+            kitchen.Library.price = tool.Pricing(answer).price
+            for call in (["ask"], ["ask", "--json"]):
+                status, output, errors = called(*call, "--rate", "19", path)
+                said = "the cheapest kitchen cannot be told: " in errors and "; without --rate all else is told" in errors
+                check(status == 1 and said and tells_nothing(output), f"{answer!r}: {status}, {output}{errors}")
+            tally["lies"] += 1
+        kitchen.Library.price = tool.Pricing(right).price
+        equal(evened(called("ask", "--rate", "19", path), told), with_cheapest(text, told, "19", right), "honest")
+    finally:
+        kitchen.Library.price = true
+    equal(evened(called("ask", "--rate", "19", path), told), with_cheapest(text, told, "19", right), "the library itself")
+    tally["honest"] += 1
+
+
+def price_libraries(tally, folder):
+    """Without a library of this version nothing is told if --rate is given; without it all is."""
+    tree = copied_tree(folder)
+    shutil.copy(KITCHEN, tree / "target" / "bin")
+    asked = ran(["tools/job", "ask", "jobs/prices.txt"])
+    for label, phrase in put_libraries(tree):
+        status, output, errors = ran(["tools/job", "ask", "--rate", "19", "jobs/prices.txt"], cwd=tree)
+        if not phrase:
+            check(status == 0 and "Its total is 1644.50, and the tax of 19 percent on it is 312.46.\n" in output, f"{label}: {status}\n{output}{errors}")
+            continue
+        check((status, output) == (1, "") and phrase in errors, f"{label}: {status}\n{output}{errors}")
+        equal(ran(["tools/job", "ask", "jobs/prices.txt"], cwd=tree), asked, f"{label}, and no rate is given")
+        tally["libraries that are not used"] += 1
+
+
 # ---- changes
 
 OAK = "Worktop oak, oiled"
@@ -1247,6 +1388,10 @@ SAVED = [
     ("A", ["clashes", "#1"], Change("clashes", 1, set()), "article\n  wishes: wish 1\n\narticle\n"),
     ("A", ["name", "#1", '"Tür #2"'], Change("name", 1, "Tür #2".encode()), 'article "Tür #2"\n'),
     ("A", ["name", "#2", "x" * 32], Change("name", 2, b"x" * 32), f"article {'x' * 32}\n"),
+    ("prices", ["order", "#1"], Change("order", None, {1}), "order: wish 1\n\narticle Oven 60\n  wishes: wish 0\n  price: 649.00\n"),
+    ("prices", ["wishes", "#5", "#0"], Change("wishes", 5, {0}), 'taken back"\n  wishes: wish 0\n  price: -75.00\n'),
+    ("prices", ["clashes", "Oven with steam"], Change("clashes", 1, set()), "steam\n  wishes: wish 0\n  price: 1149.90\n"),
+    ("prices", ["name", "Worktop oak", "Eiche"], Change("name", 2, b"Eiche"), "article Eiche\n  wishes: wish 1\n  price: 389.50\n"),
 ]  # fmt: skip
 
 
@@ -1283,6 +1428,7 @@ def arguments_of(change):
 
 @section(
     "change", "order", "wishes", "clashes", "name", "dropped", "back again", "drawn changes", "drawn refusals", "command lines",
+    "changes with prices",
     *(f"refused {number}" for number in (1, 2, 6, 7, 8, 9)), "made from a table", "own files", "streams", "lies", "honest",
     "libraries not used"
 )  # fmt: skip
@@ -1342,6 +1488,7 @@ def drawn_changes(tally, folder):
     """Drawn changes of drawn jobs, allowed or not, beside the rules with reference/."""
     draw, path, new = random.Random(11), folder / "drawn.job", folder / "new.job"
     jobs = [draws.drawn_choice(draw) for _ in range(300)] + [draws.wide_choice(draw) for _ in range(20)]
+    jobs += [draws.priced(draw, draws.drawn_choice(draw)) for _ in range(100)]
     for number, job in enumerate(jobs):
         file, found = reader.written(job), tool.drawn_change(draw, job)
         label = f"{found} of {file.hex()}"
@@ -1349,6 +1496,7 @@ def drawn_changes(tally, folder):
         equal(tool.outcome_of(changing.saved, file, found), expected, label)
         made = isinstance(expected, bytes)
         tally["drawn changes" if made else "drawn refusals"] += 1
+        tally["changes with prices"] += made and any(article.price for article in job.articles)
         if made:
             equal(changing.saved(expected, there(file, found)), file, f"{label}, and back again")
             tally["back again"] += 1
@@ -1407,6 +1555,7 @@ def other_answers_to(file, right):
     yield reader.written(job._replace(order=job.order ^ {0}))
     yield reader.written(job._replace(articles=job.articles[:-1]))
     yield reader.written(job._replace(articles=[article._replace(name=b"x") for article in job.articles]))
+    yield from (reader.written(draws.priced(None, job, lambda draw, price=price: price)) for price in (0, 1))
     yield from (kitchen.Refused(number, place) for number in range(18) for place in (0, 3))
 
 
@@ -1510,6 +1659,12 @@ class Beside:
 
         self.same(f"bound {file.hex()}, {goal}, {groups}", lambda: self.ours.bound(file, goal, groups), second)
 
+    def price(self, file, rate):
+        answer = self.same(f"price {rate} {file.hex()}", lambda: self.ours.price(file, rate), lambda: kitchen.Priced(*rules.price(file, rate)))
+        if isinstance(answer, kitchen.Priced):
+            self.tally["totals below zero" if answer.total < 0 else "totals of zero or more"] += 1
+            self.tally["taxes below zero"] += answer.tax < 0
+
     def partition(self, file):
         second = lambda: bytes(rules.own_groups(rules.read(file, (reader.CHOICE,))))
         self.same(f"partition {file.hex()}", lambda: self.ours.partition(file), second)
@@ -1582,6 +1737,8 @@ class Beside:
         self.filter_pass(file, {0}, {0}, [0] * 64)
         self.bound(file, {0})
         self.bound(file, set(), [0] * 64)
+        self.price(file, 1900)
+        self.price(file, 10_001)
         self.selections(file)
         self.plan(file)
         self.layers(file, 0)
@@ -1598,12 +1755,12 @@ class Beside:
     "module", "read", "choose", "pass", "bound", "partition", "selections", "plan", "fact", "round", "name", "find", "alike",
     "same_name", "equal and found", "unequal", "found by other bytes", "the lowest of several", "save_order", "save_wishes", "save_clashes", "save_name", "unusable", "built", "answers NoSelection", "answers NoPlan",
     "answers None", "goal 0 falls short", "goal 1 falls short", *(f"none of {count} falls short" for count in range(3)),
-    "passes that fall short", "passes that do not fall short",
-    *(f"refused {number}" for number in range(1, 14))
+    "passes that fall short", "passes that do not fall short", "price", "totals below zero", "totals of zero or more", "taxes below zero",
+    *(f"refused {number}" for number in (*range(1, 14), 17))
 )  # fmt: skip
 def module(tally, folder):
     draw, beside = random.Random(5), Beside(tally)
-    for file in [*reader.BASES.values(), *draws.over_limits()]:
+    for file in [*reader.BASES.values(), reader.P, reader.P_NAMED, *draws.over_limits()]:
         beside.each(file)
     for _ in range(150):
         choice_calls(beside, reader.written(draws.drawn_choice(draw)), draw)
@@ -1616,6 +1773,8 @@ def module(tally, folder):
         save_calls(beside, reader.written(job), draw)
     for _ in range(400):
         name_calls(beside, draw)
+    for _ in range(300):
+        price_calls(beside, draws.priced(draw, draws.drawn_choice(draw)), draw)
     past_the_words(tally, beside.ours)
     built(tally, draw)
     shown_in_the_module(tally)
@@ -1642,6 +1801,19 @@ def choice_calls(beside, file, draw):
     renamed_job = job._replace(articles=[article._replace(name=b"x") for article in job.articles])
     for other in (renamed_job, job._replace(order=part()), job._replace(articles=job.articles[:-1])):
         beside.alike(file, reader.written(other))
+
+
+def price_calls(beside, job, draw):
+    """Of a choice with prices: what it costs, what it is read as and saved as, and that it is alike without its prices."""
+    file = reader.written(job)
+    for rate in (0, 5000, draw.randint(0, 10_000), draw.choice([10_000, 10_001, 2**64 - 1])):
+        beside.price(file, rate)
+    beside.read(file)
+    beside.alike(file, reader.written(draws.priced(draw, job)))
+    beside.choose(file)
+    beside.names(file, range(len(job.articles) + 1), [article.name for article in job.articles])
+    beside.save(file, "order", None, draws.some(draw, job.wishes, 0.5))
+    beside.save(file, "name", 0, draws.drawn_name(draw))
 
 
 def save_calls(beside, file, draw):
@@ -1701,6 +1873,12 @@ def past_the_words(tally, library):
         "a goal": lambda: library.choose(a, goals=[{64}]),
         "a second goal": lambda: library.choose(a, goals=[{0}, {70}]),
         "live articles": lambda: library.filter_pass(a, {64}, {0}),
+        "a rate past the words": lambda: library.price(a, 2**64),
+        "a rate below 0": lambda: library.price(a, -1),
+        "a file of a price, as text": lambda: library.price(a.decode("latin-1"), 0),
+        "a price past its bytes": lambda: kitchen.choice(0, (), [article(price=2**31)]),
+        "a price below its bytes": lambda: kitchen.choice(0, (), [article(price=-(2**31) - 1)]),
+        "a price that is no number of cents": lambda: kitchen.choice(0, (), [article(price=0.5)]),
         "the goal of a pass": lambda: library.filter_pass(a, {0}, {64}),
         "the goal of a bound": lambda: library.bound(a, {0, 64}),
         "a group of a bound": lambda: library.bound(a, {0}, [0, 0, 256]),
@@ -1753,8 +1931,8 @@ def past_the_words(tally, library):
 def built(tally, draw):
     """A job that is built here is written as the second program writes it; of two that clash either may say so."""
     for _ in range(60):
-        theirs = draws.drawn_choice(draw)
-        articles = [kitchen.article(article.wishes, (), article.name) for article in theirs.articles]
+        theirs = draws.priced(draw, draws.drawn_choice(draw))
+        articles = [kitchen.article(article.wishes, (), article.name, article.price) for article in theirs.articles]
         for high, article in enumerate(theirs.articles):
             for low in article.clashes:
                 one, other = draw.choice([(low, high), (high, low)])
@@ -1815,7 +1993,11 @@ def cut_to_fit(library, file, article, name):
     return true_name(library, file, article, kitchen.named(name)[: kitchen.LONGEST_NAME])
 
 
-true_conflict, true_further = advising.conflict, asking.further
+def tax_for_total(text, rate, priced):
+    return true_told(text, rate, priced._replace(total=priced.tax))
+
+
+true_conflict, true_further, true_told = advising.conflict, asking.further, telling.cheapest_told
 true_choose, true_name = kitchen.Library.choose, kitchen.Library.save_name
 # What errs, where, what is put in its place, and the section that has to find it.
 FAULTS = {
@@ -1843,6 +2025,10 @@ FAULTS = {
     20: ("names are the same by their bytes only", kitchen, "name_key", kitchen.named, "module"),
     21: ("names are the same by their form, covered or not", kitchen, "is_covered", lambda character: True, "module"),
     22: ("a list finds names by their bytes only", texts, "name_key", kitchen.named, "statuses"),
+    23: ("what the library says of a price is not tried", asking, "try_priced", lambda job, rate, found, first: None, "price"),
+    24: ("totals and taxes are words without a sign", kitchen, "signed", lambda word: word, "module"),
+    25: ("prices of a text are lost", texts.Draft, "price", lambda draft, entry: 0, "price"),
+    26: ("the tax is told in place of the total", telling, "cheapest_told", tax_for_total, "price"),
 }  # fmt: skip
 
 

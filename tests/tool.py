@@ -125,7 +125,7 @@ def text_of(file):
 
 def samples(folder):
     """Every sample is written without a warning, and read back to the same file."""
-    check({path.stem for path in SAMPLES} >= {"A", "F", "fitting", "impossible", "kitchen"}, "a sample is missing")
+    check({path.stem for path in SAMPLES} >= {"A", "F", "fitting", "impossible", "kitchen", "prices"}, "a sample is missing")
     for path in SAMPLES:
         target = folder / f"{path.stem}.job"
         equal(run("write", path, "-o", target), (0, b"", ""), f"write {path.name}")
@@ -176,7 +176,29 @@ CANONICAL = {
         "choice\nwishes:\norder:\n\narticle a\n\narticle a\n\narticle\n  clashes: #0\n\n"
         'article "order: x"\n\narticle Küche\n  clashes: "order: x"\n'
     ),
+    'choice\nwishes:\norder:\narticle\nprice: 7\nclashes:\narticle "price: 3"\nprice:-0.5\narticle\nclashes: "price: 3"\nprice: 0': (
+        'choice\nwishes:\norder:\n\narticle\n  price: 7.00\n\narticle "price: 3"\n  price: -0.50\n\narticle\n  clashes: "price: 3"\n'
+    ),
 }
+# What may stand after `price:`, with the price in cents.
+AMOUNTS = {
+    "129.90": 12990, "129.9": 12990, "129": 12900, "-40": -4000, "0.05": 5, "-0.05": -5, "-0.5": -50, "0.5": 50, "1": 100, "00.01": 1, "007": 700,
+    "0": 0, "0.0": 0, "0.00": 0, "-0": 0, "-0.00": 0, "21474836.47": 2**31 - 1, "-21474836.48": -(2**31), "21474836": 2147483600,
+}  # fmt: skip
+# What may not, and a part of the message.
+NO_AMOUNTS = {
+    **{text: "the price is an amount; expected one such as 129.90 or -40, with a point and at most two decimals" for text in (
+        "", "-", ".", "5.", ".5", "-.5", "+5", "129,90", "1,299.00", "1 299", "129.905", "1.2.3", "--5", "5-", "- 5", "1e3", "0x10", "5 EUR", "€5",
+        "٣", "\u22125", '"5"', "five", "5, 6", "1" * 5000, "5 % ",
+    )},
+    **{text: f"no file has room for the price {text}; expected an amount from -21474836.48 to 21474836.47" for text in (
+        "21474836.48", "-21474836.49", "21474837", "-21474837", "99999999.99", "-99999999", "123456789", "-" + "9" * 20, "42949672.97",
+    )},
+    "#5": "a comment has a line of its own",
+    "5 # net": "a comment has a line of its own",
+    "5\u200b": "the line has a character that does not print",
+    "5,": "the list ends with a comma",
+}  # fmt: skip
 
 
 def texts_in_order():
@@ -186,6 +208,28 @@ def texts_in_order():
         equal(written(text), file, f"the same job, {label}")
     for text, form in CANONICAL.items():
         equal(text_of(written(text)).decode(), form, f"the form of {text!r}")
+
+
+def amounts():
+    """Prices of texts, and what is none; what a file has comes back as a text with two decimals."""
+    for amount, cents in AMOUNTS.items():
+        for line in (f"price: {amount}", f"price : {amount} ", f"  price:{amount}"):
+            job = kitchen.read(written(f"{CHOICE}article X\n{line}\nwishes: a\n"))
+            equal((job.records[0].price, job.records[0].sets[0]), (cents, {0}), line)
+    for amount, phrase in NO_AMOUNTS.items():
+        faults = faults_of(f"{CHOICE}article X\nwishes: a\nprice: {amount}\n")
+        check([line for line, _ in faults] == [6] and phrase in faults[0][1], f"price: {amount[:20]!r}: {faults}")
+        check("expected" in faults[0][1] and len(faults[0][1]) < 200, f"price: {amount[:20]!r}: {faults}")
+    for cents in (1, -1, 10, 99, 100, -100, 101, 12990, -4000, -5, 2**31 - 1, -(2**31)):
+        amount = files.money(cents)
+        check(re.fullmatch(r"-?[0-9]+\.[0-9]{2}", amount) and round(float(amount) * 100) == cents, f"{cents} cents are {amount}")
+        file = reference.written(reference.Choice(0, set(), [reference.Article(set(), set(), b"", cents)]))
+        equal(text_of(file).decode(), f"choice\nwishes:\norder:\n\narticle\n  price: {amount}\n", f"{cents} cents in a text")
+        equal(written(text_of(file).decode()), file, f"{cents} cents, there and back")
+        check(files.job_table(kitchen.read(file)).splitlines()[-1].split() == ["0", "-", "-", "-", amount], f"{cents} cents in a table")
+    table = files.job_table(kitchen.read(reference.P_NAMED)).splitlines()
+    equal([line.split()[-1] for line in table[-4:]], ["price", "0.07", "-", "-21474836.48"], "a table with prices")
+    check("price" not in files.job_table(kitchen.read(A)), "a table without prices")
 
 
 # ---- texts with faults
@@ -210,7 +254,13 @@ FAULTY = [
     (CHOICE + "Article X\n wishes: a\n", [(4, 'expected "article" in small letters')]),
     (CHOICE + "article X\nWishes: a\n", [(5, 'expected "wishes:" in small letters and with a colon')]),
     (CHOICE + "article X\nwishes c\n", [(5, 'expected "wishes:" in small letters and with a colon'), (5, "no wish is named")]),
-    (CHOICE + "article X\nwish: a\n", [(5, 'expected "wishes:", "clashes:" or "article"')]),
+    (CHOICE + "article X\nwish: a\n", [(5, 'expected "wishes:", "clashes:", "price:" or "article"')]),
+    (CHOICE + "article X\nPrice: 5\n", [(5, 'expected "price:" in small letters and with a colon')]),
+    (CHOICE + "article X\nprice 5,5\n", [(5, 'expected "price:" in small letters and with a colon'), (5, "the price is an amount")]),
+    (CHOICE + "article X\nprice: 5\nprice: 6\n", [(6, '"price:" is in line 5 already')]),
+    (CHOICE + "article X\nprice: 5,\n  6\n", [(5, "the price is an amount")]),
+    (CHOICE + "price: 5\n", [(4, '"price:" has no place here; expected "wishes:", "order:" or "article"')]),
+    (FITTING + "step X\nprice: 5\n", [(7, '"price:" has no place here; expected "needs:", "gives:", "takes:" or "step"')]),
     (FITTING.replace("horizon:", "Horizon"), [(2, 'expected "horizon:" in small letters and with a colon')]),
     (FITTING + "article X\n", [(6, 'expected "horizon:", "facts:", "start:", "goal:" or "step"')]),
     (FITTING + "step X\nwishes: a\n", [(7, 'expected "needs:", "gives:", "takes:" or "step"')]),
@@ -559,6 +609,8 @@ WARNED = [
     (GOOD + "article\nwishes: b\narticle\nwishes: b\n", []),
     (GOOD + "article Z\n", [(8, "the article carries no wish")]),
     (GOOD + "article\nclashes: X\n", [(8, "the article carries no wish")]),
+    (GOOD + "article Z\nprice: 5\n", [(8, "the article carries no wish")]),
+    (GOOD + "article Z\nprice: -5\n", []),
     (READY.replace("gives: b", ""), [(5, 'nothing gives the fact "b" of the goal')]),
     (READY.replace("goal: b", "goal: a, b").replace("start: a", "start:"), [(5, '"a" of the goal'), (6, 'the step needs "a"')]),
     (READY + "step Y\nneeds: b\n", []),
@@ -642,7 +694,16 @@ REFUSED = [
     (b"\x46\x21", 3, 1),
     (b"\x46\x20\x21", 3, 2),
     (b"\x46\x20\x20\x11", 3, 3),
-    (OTHER + b"\x08", 4, 11),
+    (OTHER + b"\x10", 4, 11),
+    (OTHER + b"\x80" + bytes(4), 4, 11),
+    (OTHER + b"\xf8" + bytes(4), 4, 11),
+    (OTHER + b"\x08", 2, 12),
+    (OTHER + b"\x08\x01\x00\x00", 2, 15),
+    (OTHER + b"\x08" + bytes(3), 2, 15),
+    (OTHER + b"\x08" + bytes(4), 5, 12),
+    (OTHER + b"\x0c\x01a" + bytes(4), 5, 14),
+    (OTHER + b"\x0c\x01a" + bytes(3), 2, 17),
+    (OTHER + b"\x08\x01\x00\x00\x00\x00", 8, 16),
     (STEP + b"\x10", 4, 12),
     (OTHER + b"\x01" + bytes(8), 5, 12),
     (OTHER + b"\x02" + bytes(8), 5, 12),
@@ -693,7 +754,7 @@ def files_refused(folder):
         text = reasons.explained(number, place, kitchen.Reader(file))
         check(f"Reason {number}: " in text and f"here it is {place}." in text, f"a refusal in words: {text}")
         check("Read by itself" not in text, f"a refusal in words, with its own file: {text}")
-    for base in (A, F, N, M):
+    for base in (A, F, N, M, reference.P, reference.P_NAMED):
         for file in damaged(base):
             equal(outcome(file), second_outcome(file), f"the file {file.hex(' ')}, read by reference/")
     for file in drawn.over_limits():
@@ -723,9 +784,10 @@ def random_job(source):
     """A job of either kind, with names that are not easy to write down."""
     some = lambda bound: {i for i in range(bound) if source.random() < source.choice((0, 0.1, 0.5, 1))}
     name = lambda: source.choice(NAMES) if source.random() < 0.7 else source.randbytes(source.randrange(33))
+    price = drawn.drawn_price if source.random() < 0.5 else lambda source: 0
     if source.random() < 0.5:
         n, wishes = source.choice((0, 1, 3, 20, 64)), source.choice((0, 1, 5, 64))
-        articles = [reference.Article(some(wishes), some(i), name()) for i in range(n)]
+        articles = [reference.Article(some(wishes), some(i), name(), price(source)) for i in range(n)]
         return reference.Choice(wishes, some(wishes), articles)
     n, facts = source.choice((0, 1, 3, 32)), source.choice((0, 1, 5, 32))
     steps = [reference.Step(some(facts), some(facts), some(facts), name()) for _ in range(n)]
@@ -735,7 +797,7 @@ def random_job(source):
 def there_and_back():
     """A file that is read to a text and written again is the same file; the text is stable, and so are names in sentences."""
     source = random.Random(1)
-    found = [A, F, N, M] + [reference.written(random_job(source)) for _ in range(60)]
+    found = [A, F, N, M, reference.P, reference.P_NAMED] + [reference.written(random_job(source)) for _ in range(90)]
     named = [reference.Article(set(), set(range(i)), name) for i, name in enumerate(NAMES)]
     found.append(reference.written(reference.Choice(0, set(), named)))
     for file in found:
@@ -761,7 +823,7 @@ def stated_reasons():
 
 def explanations(folder):
     found = stated_reasons()
-    equal(sorted(found), list(range(1, 17)), "the rules have 16 reasons")
+    equal(sorted(found), list(range(1, 18)), "the rules have 17 reasons")
     for number, (wrong, place) in found.items():
         text = reasons.explained(number)
         check(text.startswith(f"Reason {number}: {wrong}.\n"), f"explain {number}: {text}")
@@ -785,6 +847,10 @@ def explanations(folder):
         (7, 21, M, 'Byte 21 holds the length of the name of step 0, "cut": 3.'),
         (7, 22, M, 'Byte 22 is number 1 of the 3 bytes that hold the name of step 0: "cut".'),
         (1, 0, M, "Read by itself, the file is a fitting file that is in order."),
+        (5, 20, reference.P, "Byte 20 is number 1 of the 4 bytes that hold the price of article 0: -1.50."),
+        (5, None, reference.P[:-4] + bytes(4), "is number 1 of the 4 bytes that hold the price of article 2: 0.00."),
+        (2, None, reference.P[:-1], "the 4 bytes that hold the price of article 2, but the file has only 3 of them."),
+        (4, 11, reference.P_NAMED, 'Byte 11 holds the bit map of article 0, "x": 13, with the bits 0, 2 and 3.'),
         (2, len(N) - 1, short, "that hold the clashes of article 3, but the file has only 7 of them."),
         (14, 0, short, f"Read by itself, the file is refused 2 at {len(N) - 1}."),
         (11, 2, N, "Here that is a (article 2)."),
@@ -802,14 +868,16 @@ def explanations(folder):
         (("6", path), b"", reasons.explained(6, None, kitchen.Reader(small)).encode()),
         (("11", "1"), b"", reasons.explained(11, 1).encode()),
         (("16",), b"", reasons.explained(16).encode()),
+        (("17",), b"", reasons.explained(17).encode()),
+        (("17", "0", path), b"", reasons.explained(17, 0, kitchen.Reader(small)).encode()),
         (("14", "0"), b"", reasons.explained(14, 0).encode()),
         (("14", "1", path), b"", reasons.explained(14, 1, kitchen.Reader(small)).encode()),
         (("14", "2"), b"", reasons.explained(14, 2).encode()),
     ):
         equal(quick("explain", *arguments, stdin=stdin), (0, output, ""), f"explain {arguments}")
-    for number in ("0", "17", "x", "", "9" * 5000, "٣", os.fsdecode(b"\xff")):
+    for number in ("0", "18", "x", "", "9" * 5000, "٣", os.fsdecode(b"\xff")):
         status, output, errors = quick("explain", number)
-        check((status, output) == (1, b"") and "expected a number from 1 to 16" in errors, f"explain {number[:9]!r}: {errors}")
+        check((status, output) == (1, b"") and "expected a number from 1 to 17" in errors, f"explain {number[:9]!r}: {errors}")
     for arguments, phrase in ((("6", "x", path), "'x' is no place; expected a number"), (("6", "1", path, path), "unrecognized")):
         status, output, errors = quick("explain", *arguments)
         check((status, output) == (2, b"") and phrase in errors, f"explain {arguments}: {errors}")
@@ -824,7 +892,7 @@ COUNTED = {
 
 def places_explained():
     """The place of 14: as far as it can be said of a list of goals, and what it means in kitchen."""
-    place = "the index of the first goal in the list that falls short, and the list's length if none does"
+    place = "the index of the first goal in the list that falls short, and the list's length if none does; of a price it is 0"
     check(f"The place is {place}.\n" in reasons.explained(14), "the place of 14")
     for number, goals in ((0, "0 goals"), (1, "1 goal"), (2, "2 goals"), (64, "64 goals"), (10**30, f"{10**30} goals")):
         text = reasons.explained(14, number)
@@ -852,7 +920,7 @@ def built(job, source):
         for other in article.clashes:
             for one, two in source.choice((((number, other),), ((other, number),), ((number, other), (other, number)))):
                 said[one].add(two)
-    articles = (kitchen.article(article.wishes, clashes, article.name) for article, clashes in zip(job.articles, said))
+    articles = (kitchen.article(a.wishes, clashes, a.name, a.price) for a, clashes in zip(job.articles, said))
     return kitchen.choice(job.wishes, job.order, articles)
 
 
@@ -861,12 +929,13 @@ def host_jobs():
     source = random.Random(2)
     jobs = [random_job(source) for _ in range(60)] + [drawn.drawn_choice(source) for _ in range(100)]
     jobs += [drawn.drawn_fitting(source) for _ in range(100)] + [drawn.wide_choice(source) for _ in range(3)]
+    jobs += [drawn.priced(source, drawn.drawn_choice(source)) for _ in range(100)]
     for job in jobs:
         mine = built(job, source)
         file = kitchen.written(mine)
         equal(file, reference.written(job), f"{job} is built and written")
         equal(kitchen.read(file), mine, f"{job} is read back")
-    for file in (*drawn.small_choices(), *drawn.small_fittings()):
+    for file in (*drawn.small_choices(), *drawn.priced_choices(), *drawn.small_fittings()):
         equal(outcome(file), file, f"{file.hex(' ')} is read and written")
     job = kitchen.choice(2, {1}, [kitchen.article({0}, {1}, "Tür"), kitchen.article({1}, name=b"\xff")])
     equal([record.name for record in job.records], ["Tür".encode(), b"\xff"], "a name is a text or bytes")
@@ -893,6 +962,11 @@ def host_limits():
         ("the name of article 0 has 33 bytes", choice, 0, (), [article(name="x" * 33)]),
         ("the name of article 0 has 34 bytes", choice, 0, (), [article(name="ä" * 17)]),
         ("article 0 has 3 sets; articles have 2", choice, 2, (), [step({0}, {1})]),
+        ("the price of article 0 is 2147483648; expected cents from -2147483648 to", choice, 0, (), [article(price=2**31)]),
+        ("the price of article 1 is -2147483649", choice, 0, (), [article(), article(price=-(2**31) - 1)]),
+        ("the price of article 0 is 12.9", choice, 0, (), [article(price=12.9)]),
+        ("the price of article 0 is '12.90'", choice, 0, (), [article(price="12.90")]),
+        ("step 0 has a price; steps have none", fitting, 0, 0, (), (), [step()._replace(price=5)]),
         ("33 steps; a fitting has 0 to 32", fitting, 0, 0, (), (), [step()] * 33),
         ("33 facts; a fitting has 0 to 32", fitting, 33, 0, (), (), []),
         ("-1 facts; a fitting has 0 to 32", fitting, -1, 0, (), (), []),
@@ -910,8 +984,10 @@ def host_limits():
     later = kitchen.Job(kitchen.CHOICE, 0, None, [set()], [article((), {1}), article()])
     raised(kitchen.Unusable, "the clashes of article 0: there is no 1 below 0", kitchen.written, later)
     raised(kitchen.Unusable, "expected bytes, found int", article, (), (), 5)
-    largest = choice(64, range(64), [article(range(64), range(number), "x" * 32) for number in range(64)])
+    prices = [-(2**31), 2**31 - 1] * 32
+    largest = choice(64, range(64), [article(range(64), range(number), "x" * 32, prices[number]) for number in range(64)])
     equal(kitchen.read(kitchen.written(largest)), largest, "the largest choice")
+    equal(len(kitchen.written(largest)), kitchen.LONGEST_CHOICE - 8, "its length: article 0 has no clashes")
     largest = fitting(32, 16, range(32), range(32), [step(range(32), range(32), range(32), "x" * 32)] * 32)
     equal(kitchen.read(kitchen.written(largest)), largest, "the largest fitting")
 
@@ -922,6 +998,8 @@ def host_rest(folder):
     for number in (0, 1, 6, 2**63, 2**64 - 1, 2**63 + 2**32 + 1):
         equal(kitchen.number_of(kitchen.members_of(number)), number, f"the members of {number}")
     equal(kitchen.members_of(2**63 + 5), {0, 2, 63}, "the members of a number")
+    for number in (0, 1, 2**63 - 1, -1, -(2**63), -50, 64 * (2**31 - 1), -64 * 2**31):
+        equal(kitchen.signed(number % 2**64), number, f"{number} in two's complement")
     equal([repr(kitchen.NoSelection(1)), repr(kitchen.NoPlan)], ["NoSelection(place=1)", "NoPlan"], "that there is none")
     text, loop = folder / "no library.so", folder / "loop.so"
     text.write_text("no library")
@@ -1130,6 +1208,123 @@ def bounds():
         check(said.startswith("How far the wishes can go: ") and said.endswith(f" adds up to {wishes}, each counted as often as it is carried; the order has 2."), said)
 
 
+class Pricing:
+    """In place of the library, with the call for the price: it answers this, or raises it."""
+
+    def __init__(self, answer):
+        self.answer = answer
+
+    def price(self, file, rate):
+        if isinstance(self.answer, Exception):
+            raise self.answer
+        return self.answer
+
+
+def second_priced(job, rate):
+    """The cheapest selection of a job of reference/, with its total and its tax; None if there is none."""
+    found = second.cheapest_of_all(job)
+    return None if found is None else kitchen.Priced(found, second.cost(job, found), second.tax(second.cost(job, found), rate))
+
+
+def wrong_prices(source, job, right):
+    """Other answers: each other set of articles, with its own total and tax; and other totals and taxes of the right one."""
+    n, total = len(job.articles), right.total
+    for number in source.sample(range(2**n), min(12, 2**n)):
+        articles = second.of(number)
+        yield kitchen.Priced(articles, second.cost(job, articles), right.tax)
+        yield kitchen.Priced(articles, total, right.tax)
+    yield right._replace(articles=right.articles | {n})
+    yield right._replace(articles=right.articles | {63})
+    yield from (right._replace(total=other) for other in (total - 1, total + 1, -total, total + 2**32, total + 2**64))
+    yield from (right._replace(tax=other) for other in (right.tax - 1, right.tax + 1, -right.tax, right.tax + 2**64))
+    yield from (kitchen.NoSelection(0), kitchen.Refused(14, 0), kitchen.Refused(17, 0), kitchen.Unusable("it is missing"))
+
+
+def prices():
+    """What the library says of a price is told if the rules allow it, and of all answers only the right one."""
+    source, real, seen = random.Random(6), asking.Library, {"right": 0, "wrong": 0, "tie": 0, "below": 0}
+    try:
+        for job in [drawn.priced(source, drawn.drawn_choice(source)) for _ in range(300)]:
+            rate, mine = source.choice([0, 1, 50, 100, 1900, 5000, 10_000]), kitchen.read(reference.written(job))
+            right, label = second_priced(job, rate), f"{rate} of {job}"
+            if right is None:
+                continue
+            first = kitchen.Selection(second.selections(job)[0], set())
+            asking.Library = lambda: Pricing(right)
+            equal(asking.cheapest(mine, rate, first), right, label)
+            for answer in wrong_prices(source, job, right):
+                if answer != right:
+                    asking.Library = lambda: Pricing(answer)
+                    raised(asking.Failed, "the cheapest kitchen cannot be told: ", asking.cheapest, mine, rate, first)
+                    seen["wrong"] += 1
+            seen["right"] += 1
+            seen["tie"] += sum(second.cost(job, s) == right.total for s in second.selections(job)) > 1
+            seen["below"] += right.total < 0
+    finally:
+        asking.Library = real
+    check(min(seen.values()) > 50, f"prices that are told, and that are not: {seen}")
+    many_articles()
+    for total in range(-60, 61):
+        for rate in (0, 1, 99, 100, 101, 250, 300, 1900, 5000, 9999, 10_000):
+            equal(rules.tax(total, rate), second.tax(total, rate), f"the tax of {total} at {rate}")
+    for total, rate, expected in ((50, 100, 1), (-50, 100, -1), (49, 100, 0), (-49, 100, 0), (150, 100, 2), (-150, 100, -2), (164450, 1900, 31246)):
+        equal((rules.tax(total, rate), second.tax(total, rate)), (expected, expected), f"the tax of {total} at {rate}")
+    rates()
+
+
+def many_articles():
+    """Of many articles not every set is tried: one that is dearer than the first selection, or near a better one, is not told."""
+    source, seen = random.Random(8), 0
+    for job in [drawn.grouped_choice(source, 14, 4) for _ in range(40)]:
+        right, mine = second_priced(job, 1900), kitchen.read(reference.written(job))
+        if right is None:
+            continue
+        first = second.selections(job)[0]
+        check(keeps(rules.try_priced, mine, 1900, right, first), f"the cheapest of {job}")
+        for other in second.selections(job)[:200]:
+            total = second.cost(job, other)
+            if total > second.cost(job, first) or len(other ^ right.articles) == 1:
+                found = kitchen.Priced(other, total, second.tax(total, 1900))
+                check(not keeps(rules.try_priced, mine, 1900, found, first), f"{other} for {job}")
+                seen += 1
+    check(seen > 20, f"{seen} selections that are not the cheapest")
+
+
+def rates():
+    """Rates of the command, and how they are told."""
+    for text, rate in IN_PERCENT.items():
+        equal(commands.percentage(text), rate, f"{text} percent")
+        equal(commands.percentage(words.percent(rate)), rate, f"{rate} in words")
+    told = [words.percent(rate) for rate in (0, 1, 50, 700, 750, 1000, 1925, 10_000)]
+    equal(told, ["0", "0.01", "0.5", "7", "7.5", "10", "19.25", "100"], "rates in words")
+
+
+def prices_told():
+    """The cheapest kitchen in words and as data."""
+    text = texts.stated((ROOT / "jobs" / "prices.txt").read_bytes())
+    priced = kitchen.Priced({0, 3, 4, 5}, 164450, 31246)
+    equal(
+        telling.cheapest_told(text, 1900, priced),
+        [
+            "The cheapest kitchen, of 4 articles:",
+            "  Oven 60               649.00  oven",
+            "  Worktop laminate      158.50  worktop",
+            "  Smooth front          912.00  no handles",
+            "  Old oven, taken back  -75.00  (no wish of the order)",
+            "Its total is 1644.50, and the tax of 19 percent on it is 312.46.",
+        ],
+        "the cheapest kitchen in words",
+    )
+    free = texts.stated(GOOD.encode())
+    equal(telling.cheapest_told(free, 1900, kitchen.Priced({0}, 0, 0))[1], "  X  -  a", "an article without a price")
+    none = kitchen.Priced(set(), 0, 0)
+    equal(telling.cheapest_told(text, 0, none)[0], "The cheapest kitchen, of 0 articles:", "a kitchen without articles")
+    found = telling.data(text, kitchen.Selection({0, 2, 4}, set()), None, priced)["cheapest"]
+    equal((found["total"], found["tax"]), (164450, 31246), "total and tax as data")
+    equal([(each["number"], each["price"]) for each in found["articles"]], [(0, 64900), (3, 15850), (4, 91200), (5, -7500)], "prices as data")
+    check("cheapest" not in telling.data(text, kitchen.Selection({0, 2, 4}, set())), "without a rate nothing is priced")
+
+
 def no_library_to_bound():
     """Without a library nothing is told if --bound is asked for."""
     real, path = asking.printed, kitchen.library_path
@@ -1245,12 +1440,12 @@ SHOP = reference.written(
         {0, 1},
         [
             reference.Article({0}, set(), b"Oven"),
-            reference.Article({1}, {0}, b"Oven, 60"),
+            reference.Article({1}, {0}, b"Oven, 60", 12990),
             reference.Article({2}, set(), b""),
             reference.Article(set(), {0, 2}, b"a"),
             reference.Article({0, 2}, set(), b"a"),
             reference.Article({1}, {4}, ONE.encode()),
-            reference.Article(set(), set(), b"#1"),
+            reference.Article(set(), set(), b"#1", -4000),
             reference.Article({0}, {6}, b"\xff"),
             reference.Article({0}, {6}, b'19" rack'),
         ],
@@ -1466,12 +1661,16 @@ def changes_tried():
     """What is told of a change is what the rules say; a library that gives another file or another reason is not believed."""
     source, made, refused = random.Random(5), 0, 0
     jobs = [drawn.drawn_choice(source) for _ in range(200)] + [drawn.wide_choice(source) for _ in range(3)]
+    jobs += [drawn.priced(source, drawn.drawn_choice(source)) for _ in range(100)]
     for job in jobs:
         file, found = reference.written(job), drawn_change(source, job)
         equal(changing.wanted(file, *arguments_of(found)), found, f"{found} of {job}, as arguments")
         right = outcome_of(second_changed, file, found)
         equal(outcome_of(with_library, StandIn(), changing.saved, file, found), right, f"{found} of {job}")
         made, refused = made + isinstance(right, bytes), refused + isinstance(right, str)
+        if isinstance(right, bytes) and any(article.price for article in job.articles):
+            without = reference.written(drawn.priced(source, reference.read(right), lambda source: 0))
+            equal(outcome_of(with_library, says(without), changing.saved, file, found), "no answer", f"{found} of {job} without prices")
         others = [file, file[:-1], file + b"\0", b"", F, A, reference.written(job._replace(order=job.order ^ {0} if job.wishes else set()))]
         for other in others:
             expected = right if other == right else "no answer"
@@ -1496,6 +1695,8 @@ MADE = [
     (["name", "Oven", ""], "\narticle\n  wishes: wish 0\n\narticle \"Oven, 60\"\n"),
     (["name", "#2", "--", "-5 cm"], "article -5 cm\n"),
     (["name", "#2", "--", "-x"], "article -x\n"),
+    (["name", '"Oven, 60"', "Ofen"], "article Ofen\n  wishes: wish 1\n  clashes: Oven\n  price: 129.90\n"),
+    (["wishes", '"#1"', "#0"], 'article "#1"\n  wishes: wish 0\n  price: -40.00\n'),
 ]
 # A file, arguments, the refusal, and parts of what is said of it.
 NOT_MADE = [
@@ -1765,7 +1966,7 @@ def ended(folder):
 # ---- usage
 
 COMMANDS = {
-    "ask": ("TEXT", "--order LIST", "--next N", "--json", "- for standard input"),
+    "ask": ("TEXT", "--order LIST", "--next N", "--rate PERCENT", "--json", "- for standard input"),
     "advise": ("TEXT", "--order LIST", "--bound", "- for standard input", "needs tools/library"),
     "write": ("TEXT", "--order LIST", "-o FILE", "- for standard input", "standard output"),
     "read": ("FILE", "- for standard input"),
@@ -1775,6 +1976,9 @@ COMMANDS = {
 }
 # The arguments of each change.
 CHANGES = {"order": "[LIST]", "wishes": "ARTICLE [LIST]", "clashes": "ARTICLE [LIST]", "name": "ARTICLE [NAME]"}
+# Rates in percent, with their hundredths; and what is none.
+IN_PERCENT = {"0": 0, "0.0": 0, "0.01": 1, "0.5": 50, "7": 700, "7.5": 750, "07.50": 750, "19": 1900, "19.25": 1925, "99.99": 9999, "100": 10_000, "100.00": 10_000}
+NO_RATES = ("", "x", "-1", "100.01", "101", "1000", "19%", "19,5", "19.", ".5", "7.525", "1e1", "+19", " 19", "٣", os.fsdecode(b"\xff"))
 # Calls that cannot be, and a part of what is said.
 MISUSED = [
     (("bogus",), "invalid choice: 'bogus'"),
@@ -1801,6 +2005,12 @@ MISUSED = [
     (("ask", "a", "--next", "0"), "'0' is no count; expected 1 or more"),
     (("ask", "a", "--next", "-1"), "'-1' is no count"),
     (("ask", "a", "--next", "many"), "'many' is no count"),
+    *((("ask", "a", "--rate", rate), "is no rate; expected percent from 0 to 100, with at most two decimals") for rate in NO_RATES),
+    (("ask", "a", "--rate"), "argument --rate: expected one argument"),
+    (("ask", ROOT / "jobs" / "F.txt", "--rate", "19"), "is a fitting, which --rate does not go with"),
+    (("advise", "a", "--rate", "19"), "unrecognized arguments: --rate 19"),
+    (("page", "a", "--rate", "19"), "unrecognized arguments: --rate 19"),
+    (("write", "a", "--rate", "19"), "unrecognized arguments: --rate 19"),
     (("ask", "-", "-"), "standard input can be read only once"),
     (("advise", "a", "b"), "unrecognized arguments: b"),
     (("advise", "a", "--boun"), "unrecognized arguments: --boun"),
@@ -1881,6 +2091,9 @@ def helpful(folder):
         "32 bytes of an article or step; a letter such as ä has 2",
         f"a file {commands.LARGEST:,} bytes, be it a text or a job file",
         "Of several kitchens the one with the smallest number comes, so what comes first in the text is preferred.",
+        "Without --rate all is told as if there were no prices.",
+        "an amount from -21474836.48 to 21474836.47, with a point and at most two decimals. A price of 0 is the same as none.",
+        "Prices stay as they are: to change one, change it in the text that `tools/job read` gives.",
         "0 there is a kitchen, there is a plan; or what was asked for is done",
         "1 a text, a file or a change is at fault, or there is no answer",
         "2 the tool was called in another way than it can be",
@@ -1896,7 +2109,7 @@ def helpful(folder):
     equal(limits, [64, 32, 16, 32], "the limits that the help names")
     statuses = [commands.DONE, commands.FAILED, commands.MISUSED, commands.NONE]
     equal(statuses, [0, 1, 2, 3], "the statuses that the help names")
-    check("--" not in re.sub(r"--(order|next|json|help|version)\b", "", text), "no other option is named")
+    check("--" not in re.sub(r"--(order|next|rate|json|help|version)\b", "", text), "no other option is named")
     for name, example in (("choice", guide.CHOICE_EXAMPLE), ("fitting", guide.FITTING_EXAMPLE)):
         path = folder / f"example {name}.txt"
         path.write_text(example)
@@ -1925,9 +2138,9 @@ def main():
         folder = pathlib.Path(name).resolve()
         for part in (samples, texts_with_faults, odd_texts, keyboards, warnings, orders, files_refused, explanations, changes):
             tried(part, folder)
-        for part in (texts_in_order, comments, large_texts, blanks, names_by_the_second_program, there_and_back):
+        for part in (texts_in_order, amounts, comments, large_texts, blanks, names_by_the_second_program, there_and_back):
             tried(part)
-        for part in (host_jobs, host_limits, answers, printed_junk, none_told, bounds, choice_rules, plan_rules):
+        for part in (host_jobs, host_limits, answers, printed_junk, none_told, bounds, prices, prices_told, choice_rules, plan_rules):
             tried(part)
         for part in (meant, changes_tried):
             tried(part)

@@ -7,7 +7,7 @@ from itertools import islice
 
 from kitchen import CHOICE, Library, NoPlan, NoSelection, Plan, Refused, Selection, Unusable, number_of, written
 from showroom.rules import Broken, own_sum
-from showroom.rules import try_aside, try_no_plan, try_no_selection, try_place, try_plan, try_selection, try_smallest
+from showroom.rules import try_aside, try_no_plan, try_no_selection, try_place, try_plan, try_priced, try_selection, try_smallest
 
 ROOT = pathlib.Path(__file__).resolve().parent.parent.parent
 # Where the program is in the project, built by `rt check kitchen`, and where in an unpacked distribution.
@@ -132,3 +132,15 @@ def further(job, first, count):
     if found[:1] != [first]:
         raise Failed("the library chooses something else than kitchen; build both anew")
     return found[1:]
+
+
+def cheapest(job, rate, first):
+    """The cheapest selection with its total and its tax, from the library's own call, for a job that has the first one."""
+    try:
+        found = Library().price(written(job), rate)
+        if isinstance(found, NoSelection):
+            raise Broken("it says that there is none, and kitchen gave one")
+        try_priced(job, rate, found, first.articles)
+    except (Unusable, Refused, Broken) as trouble:
+        raise Failed(f"the cheapest kitchen cannot be told: {trouble}; without --rate all else is told") from None
+    return found

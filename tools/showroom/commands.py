@@ -4,13 +4,14 @@ import argparse
 import contextlib
 import json
 import os
+import re
 import shlex
 import signal
 import sys
 
 from kitchen import CHOICE, FITTING, VERSION, Reader, Refused, written
 from showroom import advising, changing, telling
-from showroom.asking import Failed, asked, bound, further, there_is_none
+from showroom.asking import Failed, asked, bound, cheapest, further, there_is_none
 from showroom.files import job_table, job_text
 from showroom.guide import GUIDE, SUMMARY
 from showroom.page import page
@@ -21,6 +22,7 @@ from showroom.words import brief, clean, printed
 DONE, FAILED, MISUSED, NONE = 0, 1, 2, 3
 STANDARD = "-"  # means standard input, and after -o standard output
 LARGEST = 4_000_000  # bytes of a text or job file; none comes near it
+RATE, HIGHEST_RATE = re.compile(r"([0-9]{1,3})(?:\.([0-9]{1,2}))?"), 10_000  # in percent, and in hundredths of a percent
 
 
 class Trouble(Exception):
@@ -126,7 +128,7 @@ def status_of(answer):
 
 
 def suits(path, text, options, *words):
-    """A fitting has no order, no further kitchens and no wishes."""
+    """A fitting has no order, no further kitchens, no prices and no wishes."""
     for word in words:
         if getattr(options, word) is not None and kind_of(text) is FITTING:
             raise Misuse(f"{shown(path)} is a fitting, which --{word} does not go with")
@@ -144,17 +146,21 @@ def ask_one(path, text, options):
         raise text
     text = read_text(path, text, options.order)
     answer = asked(text.job)
-    following = None
+    following = priced = None
     if options.next is not None and not there_is_none(answer):
         following = further(text.job, answer, options.next)
+    if options.rate is not None and not there_is_none(answer):
+        priced = cheapest(text.job, options.rate, answer)
     if options.json:
-        return status_of(answer), json_line(path, telling.data(text, answer, following))
+        return status_of(answer), json_line(path, telling.data(text, answer, following, priced))
     lines = telling.told(text, answer)
     if there_is_none(answer):
         lines.append(f"`{advise_command(path, options.order)}` says why.")
     elif text.job.kind is CHOICE:
         lines += telling.aside_told(text, answer.aside)
-    return status_of(answer), lines_of(lines + ([] if following is None else telling.further_told(text, following)))
+    lines += [] if following is None else telling.further_told(text, following)
+    lines += [] if priced is None else telling.cheapest_told(text, options.rate, priced)
+    return status_of(answer), lines_of(lines)
 
 
 def advise_command(path, order):
@@ -173,7 +179,7 @@ def all_texts(options):
         raise Misuse("standard input can be read only once")
     for path in options.texts:
         try:
-            yield path, suits(path, contents(path), options, "order", "next")
+            yield path, suits(path, contents(path), options, "order", "next", "rate")
         except Trouble as trouble:
             yield path, trouble
 
@@ -290,6 +296,15 @@ def several(text):
     return int(text)
 
 
+def percentage(text):
+    """A tax rate, in hundredths of a percent."""
+    found = RATE.fullmatch(text)
+    rate = int(found[1] + (found[2] or "").ljust(2, "0")) if found else None
+    if rate is None or rate > HIGHEST_RATE:
+        raise argparse.ArgumentTypeError(f"{text!r} is no rate; expected percent from 0 to 100, with at most two decimals")
+    return rate
+
+
 def parser():
     form = argparse.RawDescriptionHelpFormatter
     top = Arguments("tools/job", description=SUMMARY, epilog=GUIDE, formatter_class=form, allow_abbrev=False)
@@ -316,6 +331,8 @@ def parser():
     part.add_argument("texts", metavar="TEXT", nargs="+", help="a text, - for standard input")
     takes_order(part, "texts'")
     part.add_argument("--next", metavar="N", type=several, help="up to N further kitchens, by rising number (needs tools/library)")
+    sentence = "also the cheapest kitchen, with its total and a tax of so many percent, as 19 or 7.5 (needs tools/library)"
+    part.add_argument("--rate", metavar="PERCENT", type=percentage, help=sentence)
     part.add_argument("--json", action="store_true", help="a line of JSON for each text")
     part = command("advise", advise, "why, why not, what else")
     takes_text(part)

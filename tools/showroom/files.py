@@ -3,7 +3,7 @@
 from kitchen import CHOICE
 from showroom.texts import FIELD, OPENING, Names
 from showroom.rules import both_ways
-from showroom.words import counted, decoded, printed, quoted, series
+from showroom.words import counted, decoded, money, printed, quoted, series
 
 # ---- from a job to a text
 
@@ -53,6 +53,7 @@ def job_text(job):
             source = references if word == "clashes" else names
             if members:
                 lines += field_lines("  ", word, [source[member] for member in sorted(members)])
+        lines += [f"  price: {money(record.price)}"] if record.price else []
     return "\n".join(lines) + "\n"
 
 
@@ -64,6 +65,14 @@ def table(rows):
     first, *widths = [max(map(len, column)) for column in zip(*rows)]
     lines = [[row[0].rjust(first), *(text.ljust(width) for text, width in zip(row[1:], widths))] for row in rows]
     return ["  ".join(line).rstrip() for line in lines]
+
+
+def price_column(job):
+    """The prices of the records, below a header and set to the right; None if no record has one."""
+    if not any(record.price for record in job.records):
+        return None
+    column = ["price", *(money(record.price) if record.price else "-" for record in job.records)]
+    return [text.rjust(max(map(len, column))) for text in column]
 
 
 def job_table(job):
@@ -86,6 +95,8 @@ def job_table(job):
     for number, record in enumerate(job.records):
         sets = [record.sets[0], clashes[number]] if clashes else record.sets
         rows.append([str(number), printed(record.name) if record.name else "-", *map(shown, sets)])
+    prices = price_column(job)
+    rows = [[*row, price] for row, price in zip(rows, prices)] if prices else rows
     return "\n".join(lines + ([""] + table(rows) if job.records else [])) + "\n"
 
 

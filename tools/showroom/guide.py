@@ -51,18 +51,27 @@ why. A text for a fitting:
 jobs/ has longer ones.
 
 Which kitchen comes:
-  Of several kitchens the one with the smallest number comes, so what comes first in the text is preferred.
+  Of several kitchens the one with the smallest number comes, so what comes first in the text is preferred. Prices play no
+  part in that. With --rate the cheapest comes as well; of several that cost the same, it is the one with the smallest number.
+
+What a kitchen costs:
+  `price: 129.90` in an article is its price; one of a trade-in is below zero, as `price: -40`. With `--rate 19` the cheapest
+  kitchen is told, its total, and a tax of 19 percent on it, to the nearest cent; half a cent goes away from zero. An article
+  without a price counts as 0. What lowers the total is taken, even if no wish asks for it. The proved library answers this:
+  tools/library builds it, once, and a folder from `make dist` has it. Without --rate all is told as if there were no prices.
 
 How a text is written:
 - The first line is `choice` or `fitting`. A choice goes on with `wishes:` and `order:`, then has its articles; a
   fitting goes on with `horizon:`, `facts:`, `start:` and `goal:`, then has its steps.
-- `article NAME` or `article` opens an article, which has `wishes:` and `clashes:`. `step NAME` or `step` opens a
-  step, which has `needs:`, `gives:` and `takes:`. These fields may be left out, the others may not. Lines may be
+- `article NAME` or `article` opens an article, which has `wishes:`, `clashes:` and `price:`. `step NAME` or `step` opens
+  a step, which has `needs:`, `gives:` and `takes:`. These fields may be left out, the others may not. Lines may be
   indented.
 - Wishes, facts, articles and steps are numbered from 0, in the order of the text. `wishes:` and `facts:` of the head
   give names to wishes and facts; the job file has only their count.
 - After a colon comes a list: names, or numbers as `#3`, with commas between them. An empty list is the empty set.
   A list that ends with a comma goes on in the next line.
+- After `price:` comes an amount from -21474836.48 to 21474836.47, with a point and at most two decimals. A price of 0 is
+  the same as none.
 - An article names those above it that it clashes with: a clash is written once, at the later of the two.
 - A name with `#`, a quotation mark, a character that does not print, or a blank at its end is quoted, and in a list
   also one with a comma: "Oven, 60 cm". Inside, \\" and \\\\ stand for the two characters themselves, and \\xE4 for the
@@ -74,8 +83,9 @@ How a text is written:
 
 How a job file is changed:
   `tools/job change` makes a job file from another, which stays as it is. The two differ in one thing: the order, or the
-  wishes, the clashes or the name of one article. The proved library makes the new file: tools/library
-  builds it, once, and a folder from `make dist` has it. An example, on what `tools/job write larder.txt -o larder.job` makes of the first text above:
+  wishes, the clashes or the name of one article. Prices stay as they are: to change one, change it in the text that
+  `tools/job read` gives. The proved library makes the new file: tools/library builds it, once, and a folder from
+  `make dist` has it. An example, on what `tools/job write larder.txt -o larder.job` makes of the first text above:
 
 {indented(indented(CHANGE_EXAMPLE))}
 
@@ -86,8 +96,9 @@ How a job file is changed:
 
 With --json each text has one line:
   text, kind, and answer: "kitchen", "no such kitchen", "plan", "no such plan" or "error"; a kitchen has articles, each
-  with number, name and wishes, and set_aside (and further, with --next); "no such kitchen" has falls_short, which is true
-  if counting the wishes rules it out without a search; a plan has rounds; an error has a message.
+  with number, name and wishes, and set_aside (and further, with --next; and cheapest, with --rate: its articles, which have
+  a price, too, its total and its tax, all in cents); "no such kitchen" has falls_short, which is true if counting the
+  wishes rules it out without a search; a plan has rounds; an error has a message.
 
 Limits:
   a choice   64 articles, 64 wishes

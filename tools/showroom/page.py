@@ -10,7 +10,7 @@ from showroom.advising import conflict_told, horizon_told, rest_told, standings
 from showroom.asking import there_is_none
 from showroom.rules import both_ways
 from showroom.telling import article_rows, member_names, round_rows, told
-from showroom.words import called, counted, names_of, printed, series
+from showroom.words import called, counted, money, names_of, printed, series
 
 # Signs of a cell or a name, with the word that is read out.
 CHOSEN, CARRIED, CLASH, DONE = ("✓", "chosen"), ("●", "carried"), ("×", "clash"), ("●", "done")
@@ -53,6 +53,7 @@ th[scope=row] { background: var(--paper); }
 .grid td { min-width: 1.9rem; padding: .2rem; border-right: 1px solid var(--line); color: var(--soft);
   text-align: center; vertical-align: middle; }
 .grid td.word { padding: .2rem .5rem; text-align: left; white-space: nowrap; }
+.grid td.price { padding: .2rem .5rem; text-align: right; white-space: nowrap; }
 .grid thead th { border-right: 1px solid var(--line); overflow-wrap: normal; }
 .grid thead [scope=colgroup] { width: 0; }
 .grid tr > :last-child { border-right: 0; }
@@ -79,7 +80,7 @@ th[scope=row] { background: var(--paper); }
   .grid { font-size: min(9pt, calc((184mm - .27mm * var(--columns)) / (1.8 * var(--columns) + 27))); }
   .grid.wide { font-size: min(9pt, calc((255mm - .27mm * var(--columns)) / (1.4 * var(--columns) + 27))); }
   .grid thead, .grid .corner, th[scope=row] { position: static; }
-  .grid th, .grid td, .grid td.word, .grid thead .turned { min-width: 0; padding: .2em; }
+  .grid th, .grid td, .grid td.word, .grid td.price, .grid thead .turned { min-width: 0; padding: .2em; }
   .grid.wide td, .grid.wide thead .turned { padding: .1em; }
   .grid th[scope=row] > span { max-width: 18em; }
   .turned > span { max-height: 48mm; line-height: 1.1; }
@@ -198,18 +199,26 @@ def standing(advice, number):
     return element("td", word, class_="word")
 
 
+def price_cell(record):
+    return element("td", money(record.price) if record.price else "", class_="price")
+
+
 def wish_grid(text, chosen, advice):
-    """A row an article, a column a wish, those of the order first. The standing of articles is said if there is advice."""
+    """A row an article, a column a wish, those of the order first. The standing of articles is said if there is advice, and
+    their prices if the text has any."""
     job, order = text.job, sorted(text.job.sets[0])
     others = sorted(set(range(job.members)) - job.sets[0])
     wishes = [(wish, "ordered") for wish in order] + [(wish, "other") for wish in others]
     depth = 2 if wishes else None
+    priced = any(record.price for record in job.records)
     words = [element("th", "In kitchens", scope="col", rowspan=depth)] if advice else []
+    words += [element("th", "Price", scope="col", rowspan=depth)] if priced else []
     above = [corner("Article", depth), *words, *group("Wishes of the order", len(order)), *group("Other wishes", len(others))]
     below = [name_cell(printed(text.names[wish]), False, "col", f"turned {kind}") for wish, kind in wishes]
     rows = []
     for number, record in enumerate(job.records):
         cells = [standing(advice, number)] if advice else []
+        cells += [price_cell(record)] if priced else []
         cells += [cell(CARRIED, wish in record.sets[0], kind) for wish, kind in wishes]
         rows.append(grid_row(called(job, number), cells, number in chosen))
     head = [element("tr", *above), *([element("tr", *below)] if below else [])]

@@ -1,7 +1,7 @@
 """Refusals in words: what a reason means, and what is at its place in a file."""
 
 from kitchen import CHOICE, NO_SELECTION
-from showroom.words import called, counted, quoted, series
+from showroom.words import called, counted, money, quoted, series
 
 NO_KITCHEN = (
     "No such kitchen exists: whatever articles are put together, a wish of the order is not covered, or two of the "
@@ -44,13 +44,13 @@ REASONS = {
     4: (
         "a bit map has a bit that must be 0",
         "that byte",
-        "An article has the bits 0 to 2, for wishes, clashes and name; a step has the bits 0 to 3, for needs, gives, "
+        "An article has the bits 0 to 3, for wishes, clashes, name and price; a step has the bits 0 to 3, for needs, gives, "
         "takes and name.",
     ),
     5: (
         "a record's field is present and zero, or a name has length 0",
         "the first byte of the field, or the length byte",
-        "An empty set is left out, and so is a missing name; its bit in the bit map is then 0.",
+        "An empty set is left out, and so are a missing name and a price of 0; the bit in the bit map is then 0.",
     ),
     6: (
         "a set has a member that the file does not have, or an article clashes with a number that is not lower than "
@@ -78,7 +78,7 @@ REASONS = {
         "a lent buffer is too short",
         None,
         "A partition has a byte for each article, a plan a word for each round of the horizon, a fact layer 32 words, "
-        "and a round layer 64; a file that is saved has its own length, at most 3,211 bytes.",
+        "and a round layer 64; a file that is saved has its own length, at most 3,467 bytes.",
     ),
     11: (
         "a lent partition is false: an article has a group byte that is not below n, or is in one group with an article "
@@ -98,7 +98,7 @@ REASONS = {
     ),
     14: (
         "there is no selection whose number is the floor or greater",
-        "the index of the first goal in the list that falls short, and the list's length if none does",
+        "the index of the first goal in the list that falls short, and the list's length if none does; of a price it is 0",
         "The file is in order. A goal falls short if it has more wishes than the sum of its pass says; then there is no "
         "selection at all, whatever the floor. With the floor 0, as in the program kitchen, 14 means: "
         + NO_KITCHEN,
@@ -114,6 +114,11 @@ REASONS = {
         "The file is in order. Capitals and blanks of a name count. Whether a letter with a mark, such as ü, is one character "
         "or two makes no difference if the whole name is UTF-8 and has only characters below U+0180 and from U+0300 to "
         "U+036F; of any other name each byte counts.",
+    ),
+    17: (
+        "a tax rate is above 10,000",
+        None,
+        "A rate is in hundredths of a percent: 1900 is 19 percent, and 10,000 is all of the total.",
     ),
 }
 
@@ -144,6 +149,8 @@ def holding(reader, item):
         return f": {members}; {limit}." if number >> item.bound else f": {members}."
     if item.what == "the bit map":
         return f": {number}, with the bits {bits}." if bits else ": 0."
+    if item.what == "the price":
+        return f": {money(int.from_bytes(data, 'little', signed=True))}."
     return f": {quoted(data)}." if item.what == "the name" else f": {number}."
 
 

@@ -2,7 +2,7 @@
 
 from kitchen import CHOICE, NoPlan, NoSelection
 from showroom.reasons import NO_KITCHEN, NO_KITCHEN_AT, NO_PLAN
-from showroom.words import called, counted, names, names_of, printed
+from showroom.words import called, counted, money, names, names_of, percent, printed
 
 WIDEST = 40  # columns of a name in a list
 
@@ -88,6 +88,21 @@ def further_told(text, kitchens):
     return lines if kitchens else ["There is no further kitchen."]
 
 
+def priced_rows(text, articles):
+    """Articles, with their prices below each other, a dash for none, and the ordered wishes that each fulfils."""
+    prices = [text.job.records[number].price for number in sorted(articles)]
+    prices = [money(price) if price else "-" for price in prices]
+    width = max(map(len, prices), default=0)
+    return [(name, f"{price.rjust(width)}  {wishes}") for price, (name, wishes) in zip(prices, article_rows(text, articles))]
+
+
+def cheapest_told(text, rate, priced):
+    """The cheapest kitchen, with its total and its tax."""
+    lines = [f"The cheapest kitchen, of {counted(len(priced.articles), 'article', 'articles')}:"]
+    lines += listed(priced_rows(text, priced.articles))
+    return [*lines, f"Its total is {money(priced.total)}, and the tax of {percent(rate)} percent on it is {money(priced.tax)}."]
+
+
 # ---- for programs
 
 
@@ -100,7 +115,13 @@ def article_data(text, articles):
     return [record_data(text.job, u) | {"wishes": member_names(text, fulfilled(text, u))} for u in sorted(articles)]
 
 
-def data(text, answer, following=None):
+def cheapest_data(text, priced):
+    """Prices, total and tax are in cents."""
+    articles = [found | {"price": text.job.records[found["number"]].price} for found in article_data(text, priced.articles)]
+    return {"articles": articles, "total": priced.total, "tax": priced.tax}
+
+
+def data(text, answer, following=None, priced=None):
     """An answer as JSON has it."""
     if isinstance(answer, NoSelection):
         return {"kind": "choice", "answer": "no such kitchen", "falls_short": answer.place == 0}
@@ -113,4 +134,6 @@ def data(text, answer, following=None):
     found["set_aside"] = [record_data(text.job, number) for number in sorted(answer.aside)]
     if following is not None:
         found["further"] = [article_data(text, other.articles) for other in following]
+    if priced is not None:
+        found["cheapest"] = cheapest_data(text, priced)
     return found

@@ -4,8 +4,8 @@ import difflib
 import re
 from collections import namedtuple
 
-from kitchen import CHOICE, FITTING, KINDS, LONGEST_NAME, Job, Record, name_key
-from showroom.words import brief, cited, look, series
+from kitchen import CHOICE, FITTING, HIGHEST_PRICE, KINDS, LONGEST_NAME, LOWEST_PRICE, Job, Record, name_key
+from showroom.words import brief, cited, look, money, series
 
 MOST_FAULTS = 20  # that are shown at once
 LONGEST_HINT = 100  # a longer word is not compared with the names that there are
@@ -19,8 +19,9 @@ COMMENT = re.compile(rf"{BLANK}*#(?![0-9])")
 ITEM = re.compile(rf"{BLANK}*({QUOTED}(?={BLANK}*(?:,|$))|[^,]*){BLANK}*(,|$)")
 ESCAPE = re.compile(rb'\\(?:(["\\])|x([0-9A-Fa-f]{2})|)')
 NUMBER = re.compile(r"[0-9]{1,9}")
+AMOUNT = re.compile(r"(-?[0-9]{1,20})(?:\.([0-9]{1,2}))?")
 WORDS = {word: kind for kind in KINDS for word in (kind.word, kind.record, kind.members, *kind.heads, *kind.fields)}
-WORDS["horizon"] = FITTING
+WORDS |= {"horizon": FITTING, "price": CHOICE}
 OPENINGS = tuple(word for kind in KINDS for word in (kind.word, kind.record))
 FIELD = re.compile(rf"({'|'.join(word for word in WORDS if word not in OPENINGS)}){BLANK}*:{BLANK}*(.*)")
 OPENING = re.compile(rf"({'|'.join(OPENINGS)})(?:{BLANK}+(.*))?")
@@ -222,14 +223,17 @@ class Draft(Listing):
         horizon = () if self.kind.horizon is None else ("horizon",)
         return (*horizon, self.kind.members, *self.kind.heads)
 
+    def entry_words(self):
+        return (*self.kind.fields, *(("price",) if self.kind.priced else ()))
+
     def expected(self):
         """What may come in this part of the text."""
-        words = self.kind.fields if self.entries else self.head_words()
+        words = self.entry_words() if self.entries else self.head_words()
         return "expected " + series([f'"{word}:"' for word in words] + [f'"{self.kind.record}"'], "or")
 
     def add_field(self, line, word, text):
         fields = self.head
-        if self.entries and word in self.kind.fields:
+        if self.entries and word in self.entry_words():
             fields = self.entries[-1].fields
         elif word not in self.head_words():
             fields = {}
@@ -324,6 +328,22 @@ class Draft(Listing):
                 sets.append(set() if names is None else self.members(field, self.kind.member, names))
         return sets
 
+    def price(self, entry):
+        """The price of an article in cents; 0 if it has none, or a faulty one."""
+        field = entry.fields.get("price")
+        if field is None:
+            return 0
+        text = ", ".join(item for _, item in field.items)
+        found = AMOUNT.fullmatch(text)
+        if not found:
+            form = "expected one such as 129.90 or -40, with a point and at most two decimals"
+            return self.fault(field.line, f"the price is an amount; {form}", text) or 0
+        cents = int(found[1] + (found[2] or "").ljust(2, "0"))
+        if LOWEST_PRICE <= cents <= HIGHEST_PRICE:
+            return cents
+        span = f"expected an amount from {money(LOWEST_PRICE)} to {money(HIGHEST_PRICE)}"
+        return self.fault(field.line, f"no file has room for the price {text}; {span}") or 0
+
     def text(self):
         """What the text states; all faults are raised together."""
         for word in self.head_words() if self.lines else ():
@@ -334,7 +354,8 @@ class Draft(Listing):
         sets = [set() if names is None else self.members(field, self.kind.member, names) for field in known]
         entries = Names([entry.name for entry in self.entries])
         records = [
-            Record(self.entry_sets(number, names, entries), entry.name) for number, entry in enumerate(self.entries)
+            Record(self.entry_sets(number, names, entries), entry.name, self.price(entry))
+            for number, entry in enumerate(self.entries)
         ]
         if self.faults:
             raise Faulty(self.faults)
@@ -351,12 +372,12 @@ class Draft(Listing):
         yield from self.unfulfilled(job, names) if self.kind is CHOICE else self.unreached(job, names)
 
     def unfulfilled(self, job, names):
-        """Ordered wishes that no article carries, and articles that carry none."""
+        """Ordered wishes that no article carries, and articles that carry none, unless they are trade-ins."""
         carried = set().union(*(record.sets[0] for record in job.records))
         for wish in sorted(job.sets[0] - carried):
             yield self.head["order"].line, f"no article carries the wish {cited(names[wish])} of the order"
         for entry, record in zip(self.entries, job.records):
-            if not record.sets[0]:
+            if not record.sets[0] and record.price >= 0:
                 yield entry.line, "the article carries no wish"
 
     def unreached(self, job, names):

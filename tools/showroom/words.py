@@ -9,6 +9,16 @@ def counted(count, one, several):
     return f"{count} {one if count == 1 else several}"
 
 
+def money(cents):
+    """An amount in cents as texts have it, with two decimals."""
+    return f"{'-' if cents < 0 else ''}{abs(cents) // 100}.{abs(cents) % 100:02}"
+
+
+def percent(rate):
+    """A rate in hundredths of a percent, without decimals that are 0."""
+    return money(rate).rstrip("0").rstrip(".")
+
+
 def series(parts, word="and"):
     """Parts as they are put in a sentence; with semicolons if a part has a comma or that word itself."""
     if len(parts) < 2 or any("," in part or f" {word} " in part for part in parts):

@@ -7,7 +7,7 @@ use mathlib.Core.Option.{Option, none, some}
 use Prim.Native.Nat.{ℕ, _≤_}
 use native.Mathlib.Omega.{arith}
 use lib.Dec.{leb, ltb}
-use lib.ListN.{length, getD}
+use lib.ListN.{length, getD, length-map}
 use borrow.Author.Tests.{ltb-false}
 use Rattle.sets.proofs.Ranges.{neither}
 use Rattle.reading.specs.declared.Reason.{Reason}
@@ -17,10 +17,11 @@ use Rattle.reading.specs.declared.Spot.{Spot}
 use Rattle.reading.specs.Got.{got}
 use Rattle.jobfile.specs.declared.Verdict.{Verdict}
 use Rattle.jobfile.specs.declared.Verdict.the-variants as Verdict
-use Rattle.jobfile.specs.Job.{Job, column, size, wishes, clashes}
+use Rattle.jobfile.specs.Job.{Job, column, size, wishes, clashes, prices}
 use Rattle.jobfile.specs.Meaning.{choiceRead, Few}
-use Rattle.jobfile.proofs.NamingLaws.{jobBy, column-by}
+use Rattle.jobfile.proofs.NamingLaws.{jobBy, column-by, after-by}
 use Rattle.jobfile.proofs.StatedLaws.{column-length}
+use Rattle.jobfile.proofs.ReadLaws.{padded-at}
 use Rattle.network.specs.Network.{Network, listed, networkOf}
 use Rattle.network.specs.Groups.{firstMisplaced}
 use Rattle.filter.specs.Filter.{outside, badGoal, firstBad}
@@ -87,3 +88,8 @@ network-same f job end few =
     let room : (k : ℕ) → length (column k (job .records)) ≤ 64 = λ k. omega (arith, column-length k (job .records), few .0, few .1) in
     padded-network (size job) 64 (wishes job) (clashes job) (room 0) (room 1)
     ∙ sym (ap₂ (listed (size job)) (column-by f 0 (job .records)) (column-by f 1 (job .records)))
+
+-- and its prices are those of the job
+pub price-same : (f : List ℕ) (job : Job Spot) (end : ℕ) → Few 64 (got job end) → (i : ℕ) → getD (choiceRead (got job end) .prices) i 0 ≡ getD (prices (jobBy f job)) i 0
+price-same f job end few i =
+    padded-at 64 (prices job) (omega (arith, length-map (job .records) (λ r. getD (r .after) 0 0), few .0, few .1)) i ∙ sym (ap (λ (l : List ℕ). getD l i 0) (after-by f 0 (job .records)))

@@ -1,43 +1,19 @@
--- From what an accepted file was read as to the job that it states: what every call begins with. Assumes nothing.
-use mathlib.Core.Path.{_≡_, ap, sym, _∙_, subst}
+-- From what an accepted fitting file was read as to the job that it states: what every call on one begins with. Assumes nothing.
+use mathlib.Core.Path.{_≡_, ap, sym, _∙_}
 use Prim.Native.Nat.{ℕ}
 use mathlib.Core.List.{List}
 use Rattle.reading.specs.Got.{got}
 use Rattle.reading.specs.Items.{spots}
 use Rattle.jobfile.specs.declared.Verdict.the-variants as Verdict
-use Rattle.jobfile.specs.declared.ReadChoice.{ReadChoice}
 use Rattle.jobfile.specs.declared.ReadFitting.{ReadFitting}
-use Rattle.jobfile.specs.Job.{Job, order}
-use Rattle.jobfile.specs.Meaning.{choiceRead, fittingRead, Few, ChoiceBounds, FittingBounds}
-use Rattle.jobfile.specs.Read.{read, readJob, choices, fittings}
+use Rattle.jobfile.specs.Job.{Job}
+use Rattle.jobfile.specs.Meaning.{fittingRead, FittingBounds}
+use Rattle.jobfile.specs.Read.{read, readJob, fittings}
 use Rattle.jobfile.proofs.NamingLaws.{mapGot, jobBy, read-same}
-use Rattle.network.specs.Network.{networkOf}
 use Rattle.planning.specs.Rounds.{fittingOf}
 use Rattle.planning.specs.Meaning.{fittingIn}
 use Rattle.planning.proofs.ReadLaws.{fitting-read}
-use Rattle.arguments.specs.Meaning.{networkIn}
-use Rattle.arguments.proofs.TestLaws.{network-same}
-use Rattle.arguments.proofs.FileLaws.{as-taken, choice-verdict, fitting-verdict}
-
--- what was read of a choice file states a job: its network and its order
-pub record ChoiceRead (f : List ℕ) (r : ReadChoice) : Type 0 where
-  pub job : Job (List ℕ)
-  pub end : ℕ
-  pub is : readJob choices f ≡ got job end
-  pub network : networkIn r ≡ networkOf job
-  pub wanted : r .order ≡ order job
-
-pub choice-read : (f : List ℕ) (r : ReadChoice) → r ≡ choiceRead (read spots choices f) → ChoiceBounds f r → r .verdict ≡ Verdict.Accepted → ChoiceRead f r
-choice-read f r e bounds accepted =
-    let t = as-taken (read spots choices f) (sym (ap (λ x. x .verdict) e ∙ choice-verdict (read spots choices f)) ∙ accepted) in
-    let q : r ≡ choiceRead (got (t .job) (t .end)) = e ∙ ap choiceRead (t .is) in
-    record {
-      job = jobBy f (t .job);
-      end = t .end;
-      is = read-same f choices ∙ ap (mapGot (jobBy f)) (t .is);
-      network = ap networkIn q ∙ network-same f (t .job) (t .end) (subst (Few 64) (t .is) (bounds .3));
-      wanted = ap (λ x. x .order) q;
-    }
+use Rattle.arguments.proofs.FileLaws.{as-taken, fitting-verdict}
 
 -- what was read of a fitting file states a job: its fitting
 pub record FittingRead (f : List ℕ) (r : ReadFitting) : Type 0 where

@@ -30,7 +30,7 @@ use Rattle.calls.specs.Partition.{partitionIn, partitionOf}
 use Rattle.calls.specs.Pass.{Passed, passedFor, passIn, passOf}
 use Rattle.calls.specs.Choose.{Chosen, chosenOr, chosenFor, chooseIn, chooseOf, searched}
 use Rattle.arguments.proofs.FileLaws.{choice-verdict, file-down, job-down, on-job}
-use Rattle.calls.proofs.CallLaws.{ChoiceRead}
+use Rattle.arguments.proofs.JobLaws.{ChoiceRead}
 
 -- ---- the partition
 

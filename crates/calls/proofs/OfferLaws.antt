@@ -31,7 +31,7 @@ use Rattle.arguments.specs.Meaning.{networkIn}
 use Rattle.calls.specs.Choose.{Chosen, chosenFor, searched}
 use Rattle.calls.specs.Offer.{offerIn, offerOf}
 use Rattle.arguments.proofs.FileLaws.{choice-verdict, file-down, job-down, on-job}
-use Rattle.calls.proofs.CallLaws.{ChoiceRead}
+use Rattle.arguments.proofs.JobLaws.{ChoiceRead}
 use Rattle.calls.proofs.ChoiceLaws.{searched-is}
 
 -- ---- what the program lends itself passes the tests

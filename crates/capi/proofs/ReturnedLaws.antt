@@ -5,7 +5,7 @@ use Prim.Native.Nat.{ℕ}
 use lib.ListN.{getD}
 use Rattle.reading.specs.declared.Spot.{Spot}
 use Rattle.arguments.specs.Answers.{Said, refusedBy, answered}
-use Rattle.capi.specs.Returned.{Returned, returned, spotted}
+use Rattle.capi.specs.Returned.{Returned, returned, returnedThree, spotted}
 
 abbrev handed : ℕ → List ℕ → Returned
 handed status words = record { status = status; words = words }
@@ -39,3 +39,33 @@ module _ {A : Type 0} (words : A → List ℕ) {s : Said A} {status a b : ℕ} {
 
 pub spot-handed : {x spot : Spot} {status a b : ℕ} {out : List ℕ} → x ≡ spot → out ≡ a ∷ b ∷ [] → status ≡ 0 → getD out 0 0 ≡ x .start → getD out 1 0 ≡ x .len → record { status = status; words = out } ≡ spotted spot
 spot-handed e o t first second = ap₂ handed t (by-words o first second) ∙ ap spotted e
+
+-- ---- three words
+
+abbrev triple : ℕ → ℕ → ℕ → List ℕ
+triple first second third = first ∷ second ∷ third ∷ []
+
+pub three-are : {a b c p q r : ℕ} → a ≡ p → b ≡ q → c ≡ r → a ∷ b ∷ c ∷ [] ≡ p ∷ q ∷ r ∷ []
+three-are first second third = λ i. triple (first i) (second i) (third i)
+
+module _ {out : List ℕ} {a b c : ℕ} (o : out ≡ a ∷ b ∷ c ∷ []) where
+  pub first-of-three : getD out 0 0 ≡ a
+  first-of-three = ap (λ l. getD l 0 0) o
+
+  pub second-of-three : getD out 1 0 ≡ b
+  second-of-three = ap (λ l. getD l 1 0) o
+
+  pub third-of-three : getD out 2 0 ≡ c
+  third-of-three = ap (λ l. getD l 2 0) o
+
+  by-three : {p q r : ℕ} → getD out 0 0 ≡ p → getD out 1 0 ≡ q → getD out 2 0 ≡ r → out ≡ p ∷ q ∷ r ∷ []
+  by-three first second third = o ∙ three-are (sym first-of-three ∙ first) (sym second-of-three ∙ second) (sym third-of-three ∙ third)
+
+module _ {A : Type 0} (words : A → List ℕ) {s : Said A} {status a b c : ℕ} {out : List ℕ} where
+  pub three-handed : {x : A} {p q r : ℕ} → s ≡ answered x → words x ≡ p ∷ q ∷ r ∷ [] → out ≡ a ∷ b ∷ c ∷ [] → status ≡ 0 → getD out 0 0 ≡ p → getD out 1 0 ≡ q → getD out 2 0 ≡ r
+      → record { status = status; words = out } ≡ returnedThree words s
+  three-handed e w o t first second third = ap₂ handed t (by-three o first second third ∙ sym w) ∙ sym (ap (returnedThree words) e)
+
+  pub three-refused : {number place : ℕ} → s ≡ refusedBy number place → out ≡ a ∷ b ∷ c ∷ [] → status ≡ number → getD out 0 0 ≡ place → getD out 1 0 ≡ 0 → getD out 2 0 ≡ 0
+      → record { status = status; words = out } ≡ returnedThree words s
+  three-refused e o t first second third = ap₂ handed t (by-three o first second third) ∙ sym (ap (returnedThree words) e)

@@ -1,9 +1,11 @@
--- What the C interface hands back of an answer: a status, and the two words of `out`. 0 is the status of a value; that of a refusal is its number.
+-- What the C interface hands back of an answer: a status, and the words of `out`, two of them, and three of the call that prices. 0 is the status of a
+-- value; that of a refusal is its number.
 use mathlib.Core.Bool.{Bool, true, false}
 use mathlib.Core.List.{List, [], _∷_}
 use Prim.Native.Nat.{ℕ}
 use Rattle.reading.specs.declared.Spot.{Spot}
 use Rattle.arguments.specs.Answers.{Said, refusedBy, answered}
+use Rattle.bill.specs.Price.{Bill}
 use Rattle.calls.specs.Pass.{Passed}
 use Rattle.calls.specs.Choose.{Chosen}
 
@@ -15,6 +17,11 @@ pub record Returned : Type 0 where
 abbrev pub returned : {A : Type 0} → (A → List ℕ) → Said A → Returned
 returned words (refusedBy number place) = record { status = number; words = place ∷ 0 ∷ [] }
 returned words (answered x) = record { status = 0; words = words x }
+
+-- the same with three words
+abbrev pub returnedThree : {A : Type 0} → (A → List ℕ) → Said A → Returned
+returnedThree words (refusedBy number place) = record { status = number; words = place ∷ 0 ∷ 0 ∷ [] }
+returnedThree words (answered x) = record { status = 0; words = words x }
 
 -- the words of each sort of value; unused words are 0
 abbrev pub nothing : Unit {0} → List ℕ
@@ -28,6 +35,9 @@ passedWords p = p .live ∷ p .sum ∷ []
 
 abbrev pub both : Chosen → List ℕ
 both c = c .selection ∷ c .aside ∷ []
+
+abbrev pub billWords : Bill ℕ → List ℕ
+billWords b = b .selection ∷ b .total ∷ b .tax ∷ []
 
 abbrev pub test : Bool → List ℕ
 test true = 1 ∷ 0 ∷ []

@@ -1,6 +1,6 @@
 // The open calls for C and for all that can call C: numbers and slices only. A slice is a pointer and a
 // length there. include/kitchen.h declares what is here. Each function returns 0 for an answer and
-// the reason's number for a refusal, and always writes both words of `out`.
+// the reason's number for a refusal, and always writes all words of `out`.
 ghost use mathlib.Core.Path.{_≡_};
 ghost use mathlib.Core.List.{[], _∷_};
 ghost use Rattle.reading.specs.Items.{spots};
@@ -8,6 +8,7 @@ ghost use Rattle.reading.specs.Reasons.{numberOf};
 ghost use Rattle.jobfile.specs.Read.{read, readJob, fittings, either};
 ghost use Rattle.jobfile.specs.Meaning.{spotIn};
 ghost use Rattle.arguments.specs.Answers.{said};
+ghost use Rattle.bill.specs.Price.{priceWordsOf};
 ghost use Rattle.calls.specs.Partition.{partitionOf};
 ghost use Rattle.calls.specs.Pass.{passOf};
 ghost use Rattle.calls.specs.Choose.{chooseOf};
@@ -17,8 +18,9 @@ ghost use Rattle.calls.specs.Find.{findOf};
 ghost use Rattle.calls.specs.Compare.{compareOf};
 ghost use Rattle.calls.specs.Save.{saveOf, saveTold};
 ghost use Rattle.changes.specs.Change.{newOrder, newWishes, newClashes, newName};
-ghost use Rattle.capi.specs.Returned.{returned, nothing, alone, passedWords, both, test, spotted};
+ghost use Rattle.capi.specs.Returned.{returned, returnedThree, nothing, alone, passedWords, both, billWords, test, spotted};
 ghost use Rattle.capi.specs.Version.{interfaceNumber};
+use bill::PriceAnswer;
 use calls::ChoiceAnswer;
 use calls::CompareAnswer;
 use calls::FactsAnswer;
@@ -32,7 +34,7 @@ use reading::Refusal;
 use sets::ArticleSet;
 
 // The number of this interface, which goes up whenever it changes: KITCHEN_VERSION of the header.
-const VERSION: u32 = 5;
+const VERSION: u32 = 6;
 
 // An answer: two words, and the status 0.
 fn answered(out: &mut [u64; 2], a: u64, b: u64) -> u32
@@ -47,6 +49,23 @@ fn refused(out: &mut [u64; 2], refusal: Refusal) -> u32
     ensures { λ r. ⌜ (r ≡ numberOf (refusal .reason)) × (now (out .exit) ≡ refusal .place ∷ 0 ∷ []) ⌝ }
 {
     *out = [refusal.place as u64, 0];
+    let reason = refusal.reason;
+    reading::number(reason)
+}
+
+// An answer of three words.
+fn priced(out: &mut [u64; 3], a: u64, b: u64, c: u64) -> u32
+    ensures { λ r. ⌜ (r ≡ 0) × (now (out .exit) ≡ a ∷ b ∷ c ∷ []) ⌝ }
+{
+    *out = [a, b, c];
+    0
+}
+
+// A refusal with three words.
+fn unpriced(out: &mut [u64; 3], refusal: Refusal) -> u32
+    ensures { λ r. ⌜ (r ≡ numberOf (refusal .reason)) × (now (out .exit) ≡ refusal .place ∷ 0 ∷ 0 ∷ []) ⌝ }
+{
+    *out = [refusal.place as u64, 0, 0];
     let reason = refusal.reason;
     reading::number(reason)
 }
@@ -96,6 +115,22 @@ pub extern "C" fn kitchen_choose(
     match answer {
         ChoiceAnswer::Chosen { selection, aside } => answered(out, selection.bits, aside.bits),
         ChoiceAnswer::Refused(refusal) => refused(out, refusal),
+    }
+}
+
+// The cheapest selection with its total and its tax.
+#[no_mangle]
+pub extern "C" fn kitchen_price(file: &[u8], rate: u64, out: &mut [u64; 3]) -> u32
+    ensures { λ r. ⌜ record { status = r; words = now (out .exit) } ≡ returnedThree billWords (said (priceWordsOf (now (file .entry)) rate)) ⌝ }
+{
+    let answer = bill::price(file, rate);
+    match answer {
+        PriceAnswer::Priced {
+            selection,
+            total,
+            tax,
+        } => priced(out, selection.bits, total, tax),
+        PriceAnswer::Refused(refusal) => unpriced(out, refusal),
     }
 }
 

@@ -31,18 +31,21 @@ all-length write none (suc i) to (x ∷ l) h =
     omega (arith, all-length write none i to l (omega arith), length-append (write x) (writeAll write (alter i to l)), length-append (write x) (writeAll write l))
 
 -- a record of a choice
-record-length : (r : Record (List ℕ)) → length (writeRecord choice r) ≡ 1 + (setLength (getD (r .before) 0 0) + (setLength (getD (r .before) 1 0) + length (nameBytes (r .name))))
+record-length : (r : Record (List ℕ))
+    → length (writeRecord choice r) ≡ 1 + (setLength (getD (r .before) 0 0) + (setLength (getD (r .before) 1 0) + (length (nameBytes (r .name)) + length (fieldBytes 4 (getD (r .after) 0 0)))))
 unfolding writeRecord partsBytes fieldsBytes joined choice
 record-length r =
     let a = fieldBytes 8 (getD (r .before) 0 0) in
     let b = fieldBytes 8 (getD (drop 1 (r .before)) 0 0) in
-    let name = nameBytes (r .name) ++ [] in
+    let name = nameBytes (r .name) in
+    let price = fieldBytes 4 (getD (r .after) 0 0) in
     let second : setLength (getD (drop 1 (r .before)) 0 0) ≡ setLength (getD (r .before) 1 0) = ap setLength (getD-drop 1 (r .before) 0 0) in
     omega (
       arith,
-      length-append a (b ++ name),
-      length-append b name,
-      ap length (append-nil (nameBytes (r .name))),
+      length-append a (b ++ (name ++ (price ++ []))),
+      length-append b (name ++ (price ++ [])),
+      length-append name (price ++ []),
+      ap length (append-nil price),
       set-length (getD (r .before) 0 0),
       set-length (getD (drop 1 (r .before)) 0 0),
     )

@@ -1,6 +1,6 @@
 -- Where the parts of a choice are in its file, and how many bytes they take (docs/RULES.md, "Job files", kind 67): the order after the kind and two
--- counts; the records after the order; in a record the wishes after the bit map, then the clashes, then the name. In a record a set takes 8 bytes, and
--- none if it is empty.
+-- counts; the records after the order; in a record the wishes after the bit map, then the clashes, then the name, then the price. In a record a set takes
+-- 8 bytes, and none if it is empty.
 use mathlib.Core.Bool.{not}
 use mathlib.Core.List.{List, []}
 use Prim.Native.Nat.{ℕ, _+_, _*_}

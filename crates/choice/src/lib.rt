@@ -10,7 +10,7 @@ ghost use Rattle.network.specs.Tables.{Tabled};
 ghost use Rattle.choice.specs.Choice.{smallest, chosen, unaided, offered};
 ghost use Rattle.choice.specs.Meaning.{foundBy, isSome};
 
-mod find;
+pub mod find;
 mod least;
 
 use filter::passes;

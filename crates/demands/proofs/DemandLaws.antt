@@ -63,7 +63,7 @@ same-place e = cc
 pub one-value : {A : Type 0} {x y : A} → _≡_ {A = Said A} (answered x) (answered y) → x ≡ y
 one-value e = cc
 
-no-refusal : {A : Type 0} {x : A} {n p : ℕ} → answered x ≡ refusedBy n p → ⊥
+pub no-refusal : {A : Type 0} {x : A} {n p : ℕ} → answered x ≡ refusedBy n p → ⊥
 no-refusal e = let z : _≡_ {A = ℕ} 0 1 = cc in omega arith
 
 -- ---- answers by the faults that turn a call down

@@ -9,7 +9,7 @@ use native.Mathlib.Omega.{arith}
 use lib.ListN.{length, getD, take, drop}
 use Rattle.sets.specs.Sets.{full}
 use Rattle.reading.specs.declared.Reason.{Reason}
-use Rattle.reading.specs.declared.Reason.the-variants.{WrongKind, EndsEarly, OverLimit, ForbiddenBit, EmptyField, AbsentMember, LongName, TrailingBytes, OutOfRange, ShortBuffer, FalsePartition, LiveOutsideFile, BadGoal, NoSelection, NoPlan, NameNotFound}
+use Rattle.reading.specs.declared.Reason.the-variants.{WrongKind, EndsEarly, OverLimit, ForbiddenBit, EmptyField, AbsentMember, LongName, TrailingBytes, OutOfRange, ShortBuffer, FalsePartition, LiveOutsideFile, BadGoal, NoSelection, NoPlan, NameNotFound, HighRate}
 use Rattle.reading.specs.Reasons.{numberOf}
 use Rattle.reading.specs.Got.{Got, got, refused}
 use Rattle.reading.proofs.Reasons.{number-tells}
@@ -37,6 +37,8 @@ use Rattle.layers.proofs.LayerCode.{facts-length, rounds-length}
 use Rattle.arguments.specs.Answers.{Answer, refusal, value, onJob, refusedBy, answered, said, accepted}
 use Rattle.changes.specs.Change.{Change, isAbsent, newFile}
 use Rattle.drafts.specs.Draft.{draftIn, draftOf, roomFor}
+use Rattle.pricing.specs.Prices.{cheapest}
+use Rattle.bill.specs.Price.{priceBy, billed, priceIn, priceOf, priceWordsOf}
 use Rattle.calls.specs.Partition.{partitionIn, partitionOf}
 use Rattle.calls.specs.Pass.{passedFor, passIn, passOf}
 use Rattle.calls.specs.Choose.{chosenOr, chooseIn, chooseOf}
@@ -46,17 +48,18 @@ use Rattle.calls.specs.Name.{nameOf}
 use Rattle.calls.specs.Find.{findIn, findOf}
 use Rattle.calls.specs.Compare.{compareOf}
 use Rattle.calls.specs.Save.{saveOf}
-use Rattle.demands.specs.Demands.{Exactly, Refuses, Says, Off, Wrong, absentLayer, shortBuffer, falsePartition, absentArticle, wrongGoal, wrongGoals, Has, Alike, ChoiceKept, PlanKept}
+use Rattle.demands.specs.Demands.{Exactly, Refuses, Says, Off, Wrong, absentLayer, shortBuffer, falsePartition, absentArticle, wrongGoal, wrongGoals, highRate, Has, Alike, ChoiceKept, PlanKept}
 use Rattle.demands.specs.Saving.{Given, wrongSaving}
 use Rattle.demands.proofs.ReasonLaws.{file-reason}
 use Rattle.demands.proofs.DemandLaws.{exactly-then, tests-end, accepted-exactly, one-pass, both-pass, room-checks, layer-checks, groups-checks, pass-checks, goals-checks, file-exactly, file-tests, file-stated-tests, file-taken, file-only, left-exactly, left-taken, left-kept, left-value, name-past, chosen-taken, chosen-none, choice-is, choice-kept, found-taken, found-none, found-some, lowest-exactly, nobody-exactly, alike-exactly, plan-is, plan-kept}
+use Rattle.demands.proofs.PriceLaws.{words-refused, rate-checks, bill-taken}
 use Rattle.demands.proofs.SaveLaws.{change-tests, room-on, saved-value}
 
 -- ---- demand 1
 
 -- the numbers of the rules, and no two reasons have one
-pub demand-1-numbers : (numberOf WrongKind ≡ 1) × (numberOf EndsEarly ≡ 2) × (numberOf OverLimit ≡ 3) × (numberOf ForbiddenBit ≡ 4) × (numberOf EmptyField ≡ 5) × (numberOf AbsentMember ≡ 6) × (numberOf LongName ≡ 7) × (numberOf TrailingBytes ≡ 8) × (numberOf OutOfRange ≡ 9) × (numberOf ShortBuffer ≡ 10) × (numberOf FalsePartition ≡ 11) × (numberOf LiveOutsideFile ≡ 12) × (numberOf BadGoal ≡ 13) × (numberOf NoSelection ≡ 14) × (numberOf NoPlan ≡ 15) × (numberOf NameNotFound ≡ 16)
-demand-1-numbers = (refl, refl, refl, refl, refl, refl, refl, refl, refl, refl, refl, refl, refl, refl, refl, refl)
+pub demand-1-numbers : (numberOf WrongKind ≡ 1) × (numberOf EndsEarly ≡ 2) × (numberOf OverLimit ≡ 3) × (numberOf ForbiddenBit ≡ 4) × (numberOf EmptyField ≡ 5) × (numberOf AbsentMember ≡ 6) × (numberOf LongName ≡ 7) × (numberOf TrailingBytes ≡ 8) × (numberOf OutOfRange ≡ 9) × (numberOf ShortBuffer ≡ 10) × (numberOf FalsePartition ≡ 11) × (numberOf LiveOutsideFile ≡ 12) × (numberOf BadGoal ≡ 13) × (numberOf NoSelection ≡ 14) × (numberOf NoPlan ≡ 15) × (numberOf NameNotFound ≡ 16) × (numberOf HighRate ≡ 17)
+demand-1-numbers = (refl, refl, refl, refl, refl, refl, refl, refl, refl, refl, refl, refl, refl, refl, refl, refl, refl)
 
 pub demand-1-one-number : (r s : Reason) → numberOf r ≡ numberOf s → r ≡ s
 demand-1-one-number r s e = number-tells r s e
@@ -115,6 +118,11 @@ demand-1-plan file buffer =
 
 pub demand-1-find : (file name : List ℕ) (number place : ℕ) → Exactly (Refuses (said (findOf file name)) number place) (Wrong either file (λ job. []) number place)
 demand-1-find file name = file-tests either file (λ job. findIn job name) (λ job. tests-end _ (found-taken (lowestNamed name (size job) (λ i. getD (namesOf (job .records)) i [])) NameNotFound refl))
+
+pub demand-1-price : (file : List ℕ) (rate : ℕ) (number place : ℕ) → Exactly (Refuses (said (priceWordsOf file rate)) number place) (Wrong choices file (λ job. highRate rate ∷ []) number place)
+demand-1-price file rate number place =
+    exactly-then (words-refused (priceOf file rate) number place)
+    (file-tests choices file (λ job. priceIn job rate) (λ job. rate-checks rate .tests (tests-end _ (bill-taken (cheapest (networkOf job) (priceBy job) (order job)) (billed (size job) (priceBy job) rate)))) number place)
 
 -- saving: the old file, then what is wrong with the change, then the buffer for the new file
 pub demand-1-save : (file : List ℕ) (change : Change) (buffer : List ℕ) → Bytes file → Given change → (number place : ℕ)
@@ -179,6 +187,9 @@ demand-1-pass-else file groups live goal = accepted-exactly (said (passOf file g
 pub demand-1-choose-else : (file groups goals : List ℕ) (floor : ℕ)
     → Exactly (accepted (said (chooseOf file groups goals floor)) ≡ true) ((number place : ℕ) → Wrong choices file (λ job. shortBuffer groups (size job) ∷ falsePartition (networkOf job) groups ∷ wrongGoals (order job) goals ∷ []) number place → ⊥)
 demand-1-choose-else file groups goals floor = accepted-exactly (said (chooseOf file groups goals floor)) (demand-1-choose file groups goals floor)
+
+pub demand-1-price-else : (file : List ℕ) (rate : ℕ) → Exactly (accepted (said (priceWordsOf file rate)) ≡ true) ((number place : ℕ) → Wrong choices file (λ job. highRate rate ∷ []) number place → ⊥)
+demand-1-price-else file rate = accepted-exactly (said (priceWordsOf file rate)) (demand-1-price file rate)
 
 pub demand-1-fact-layer-else : (file buffer : List ℕ) (k : ℕ)
     → Exactly (accepted (factLayerOf file k buffer .answer) ≡ true) ((number place : ℕ) → Wrong fittings file (λ job. absentLayer k 0 (horizon job) ∷ shortBuffer buffer 32 ∷ []) number place → ⊥)

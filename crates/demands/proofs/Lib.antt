@@ -2,8 +2,10 @@
 pub mod ReasonLaws
 pub mod DemandLaws
 pub mod SaveLaws
+pub mod PriceLaws
 pub mod Demands
 pub mod Saving
 pub mod Bounds
 pub mod Naming
+pub mod Pricing
 pub mod Promises

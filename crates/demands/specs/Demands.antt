@@ -87,6 +87,10 @@ wrongGoals order goals = record {
   number = 13;
 }
 
+-- 17: a tax rate above 10,000 hundredths of a percent
+abbrev pub highRate : ℕ → Fault
+highRate rate = record { At = λ p. (p ≡ 0) × (10000 < rate); number = 17 }
+
 -- ---- demand 1: what finding and comparing give
 
 -- article or step i has this name, or one that is equal to it; it is not empty

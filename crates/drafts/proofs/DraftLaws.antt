@@ -101,7 +101,7 @@ cut-same job stated i new l = go (decLe (length new) 33)
 
 module _ (f : List ℕ) (r : ReadChoice) (R : ReadAs f r) where
   pub writable : (name : List ℕ) → ChoiceBounds f r → length name ≤ 33 → Writable f r name
-  writable name (articles, wanted, within, few) short = (articles, short, within, R .short)
+  writable name (articles, wanted, within, few, priced) short = (articles, short, within, R .short)
 
   pub order-drafted : (v number : ℕ) (name : List ℕ) {o : ReadChoice} → r .articles ≤ number → o ≡ ordering r v → drafted (write (choiceIn f o number name)) ≡ draftOf f (newOrder v)
   order-drafted v number name above e =

@@ -14,7 +14,7 @@ use Rattle.reading.specs.Items.{spots}
 use Rattle.jobfile.specs.declared.Verdict.the-variants as Verdict
 use Rattle.jobfile.specs.declared.ReadChoice.{ReadChoice}
 use Rattle.jobfile.specs.Layout.{choice}
-use Rattle.jobfile.specs.Job.{Record, noRecord, Job, column, size}
+use Rattle.jobfile.specs.Job.{Record, noRecord, Job, column, columnAfter, prices, size}
 use Rattle.jobfile.specs.Read.{read, readJob, choices}
 use Rattle.jobfile.specs.Valid.{Bytes, AllFrom, ValidRecord}
 use Rattle.jobfile.specs.Meaning.{padded, startsOf, lensOf, choiceRead, namesRead, Few, NamesWithin, ChoiceBounds}
@@ -35,7 +35,7 @@ stated-kind job stated = stated .kind
 module _ (f : List ℕ) (w : ℕ) where
   -- a record by its place in the columns
   record-at : (k : ℕ) (rs : List (Record Spot)) → AllFrom (ValidRecord choice w) k (map (recordBy f) rs) → (i : ℕ) → i < length rs
-      → getD (map (recordBy f) rs) i noRecord ≡ articleBy (getD (column 0 rs) i 0) (getD (column 1 rs) i 0) (take (getD (lensOf rs) i 0) (drop (getD (startsOf rs) i 0) f))
+      → getD (map (recordBy f) rs) i noRecord ≡ articleBy (getD (column 0 rs) i 0) (getD (column 1 rs) i 0) (take (getD (lensOf rs) i 0) (drop (getD (startsOf rs) i 0) f)) (getD (columnAfter 0 rs) i 0)
   record-at k [] o i l = absurd (omega arith)
   record-at k (r ∷ rs) o zero l =
       ap₂ (λ (before after : List ℕ). record { before = before; name = take (r .name .len) (drop (r .name .start) f); after = after }) (choice-fields w k (r .before) (o .0 .before)) (choice-after w k (r .after) (o .0 .after))
@@ -92,6 +92,9 @@ module _ (f : List ℕ) (bytes : Bytes f) where
       at-column : (k i : ℕ) → getD (padded 64 (column k (job .records))) i 0 ≡ getD (column k (job .records)) i 0
       at-column k = padded-at 64 (column k (job .records)) (omega (arith, column-length k (job .records), few .0, few .1))
 
+      at-price : (i : ℕ) → getD (padded 64 (prices job)) i 0 ≡ getD (prices job) i 0
+      at-price = padded-at 64 (prices job) (omega (arith, length-map (job .records) (λ r. getD (r .after) 0 0), few .0, few .1))
+
       at-spot : ((i : ℕ) → getD (padded 64 (startsOf (job .records))) i 0 ≡ getD (startsOf (job .records)) i 0) × ((i : ℕ) → getD (padded 64 (lensOf (job .records))) i 0 ≡ getD (lensOf (job .records)) i 0)
       at-spot = (
         padded-at 64 (startsOf (job .records)) (omega (arith, length-map (job .records) (λ r. r .name .start), few .0, few .1)),
@@ -109,9 +112,9 @@ module _ (f : List ℕ) (bytes : Bytes f) where
           ∙ sym (list-at (size job) (articleIn f (choiceRead (got job end)) number name) noRecord i m))
         where
           article : (number : ℕ) (name : List ℕ) (i : ℕ) → i < number
-              → articleBy (getD (column 0 (job .records)) i 0) (getD (column 1 (job .records)) i 0) (take (getD (lensOf (job .records)) i 0) (drop (getD (startsOf (job .records)) i 0) f)) ≡ articleIn f (choiceRead (got job end)) number name i
+              → articleBy (getD (column 0 (job .records)) i 0) (getD (column 1 (job .records)) i 0) (take (getD (lensOf (job .records)) i 0) (drop (getD (startsOf (job .records)) i 0) f)) (getD (prices job) i 0) ≡ articleIn f (choiceRead (got job end)) number name i
           article number name i above =
-              rw (at-column 0 i, at-column 1 i, at-spot .0 i, at-spot .1 i, ne-eqb i number (λ q. let z : ⊥ = omega arith in z))
+              rw (at-column 0 i, at-column 1 i, at-price i, at-spot .0 i, at-spot .1 i, ne-eqb i number (λ q. let z : ⊥ = omega arith in z))
 
   pub as-read : (r : ReadChoice) → r ≡ choiceRead (read spots choices f) → ChoiceBounds f r → r .verdict ≡ Verdict.Accepted → ReadAs f r
   as-read r e bounds accepted =

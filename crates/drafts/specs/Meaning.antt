@@ -34,6 +34,7 @@ ordering read v = record {
   order = v;
   wishes = read .wishes;
   clashes = read .clashes;
+  prices = read .prices;
   starts = read .starts;
   lens = read .lens;
 }
@@ -46,6 +47,7 @@ wishing read i v = record {
   order = read .order;
   wishes = set (read .wishes) i v;
   clashes = read .clashes;
+  prices = read .prices;
   starts = read .starts;
   lens = read .lens;
 }
@@ -58,6 +60,7 @@ clashing read i v = record {
   order = read .order;
   wishes = read .wishes;
   clashes = set (read .clashes) i v;
+  prices = read .prices;
   starts = read .starts;
   lens = read .lens;
 }

@@ -13,8 +13,8 @@ use jobfile::ReadChoice;
 use jobfile::Verdict;
 use reading::Refusal;
 
-// The bytes of a page. No file that is put on it has more than 3,275: 11, and for each of 64 articles a
-// record of at most 51, with a name that is one byte too long.
+// The bytes of a page. No file that is put on it has more than 3,531: 11, and for each of 64 articles a
+// record of at most 55, with a name that is one byte too long.
 const PAGE: usize = 4096;
 
 // A number that no article has.
@@ -63,6 +63,7 @@ fn with_order(read: ReadChoice, order: u64) -> ReadChoice
     let verdict = read.verdict;
     let wishes = read.wishes;
     let clashes = read.clashes;
+    let prices = read.prices;
     let starts = read.starts;
     let lens = read.lens;
     ReadChoice {
@@ -72,6 +73,7 @@ fn with_order(read: ReadChoice, order: u64) -> ReadChoice
         order,
         wishes,
         clashes,
+        prices,
         starts,
         lens,
     }
@@ -86,6 +88,7 @@ fn with_wishes(read: ReadChoice, article: usize, set: u64) -> ReadChoice
     let mut wishes = read.wishes;
     wishes[article] = set;
     let clashes = read.clashes;
+    let prices = read.prices;
     let starts = read.starts;
     let lens = read.lens;
     ReadChoice {
@@ -95,6 +98,7 @@ fn with_wishes(read: ReadChoice, article: usize, set: u64) -> ReadChoice
         order: read.order,
         wishes,
         clashes,
+        prices,
         starts,
         lens,
     }
@@ -109,6 +113,7 @@ fn with_clashes(read: ReadChoice, article: usize, set: u64) -> ReadChoice
     let wishes = read.wishes;
     let mut clashes = read.clashes;
     clashes[article] = set;
+    let prices = read.prices;
     let starts = read.starts;
     let lens = read.lens;
     ReadChoice {
@@ -118,6 +123,7 @@ fn with_clashes(read: ReadChoice, article: usize, set: u64) -> ReadChoice
         order: read.order,
         wishes,
         clashes,
+        prices,
         starts,
         lens,
     }

@@ -40,6 +40,27 @@ fileCrossed =
     ∷ 3 ∷ 2 ∷ 0 ∷ 0 ∷ 0 ∷ 0 ∷ 0 ∷ 0 ∷ 0 ∷ 1 ∷ 0 ∷ 0 ∷ 0 ∷ 0 ∷ 0 ∷ 0 ∷ 0
     ∷ []
 
+-- P: A with the prices -150, -150 and 100, each after the sets of its record: 58 bytes
+abbrev pub fileP : List ℕ
+fileP =
+    67 ∷ 3 ∷ 2
+    ∷ 3 ∷ 0 ∷ 0 ∷ 0 ∷ 0 ∷ 0 ∷ 0 ∷ 0
+    ∷ 9 ∷ 1 ∷ 0 ∷ 0 ∷ 0 ∷ 0 ∷ 0 ∷ 0 ∷ 0 ∷ 106 ∷ 255 ∷ 255 ∷ 255
+    ∷ 11 ∷ 2 ∷ 0 ∷ 0 ∷ 0 ∷ 0 ∷ 0 ∷ 0 ∷ 0 ∷ 1 ∷ 0 ∷ 0 ∷ 0 ∷ 0 ∷ 0 ∷ 0 ∷ 0 ∷ 106 ∷ 255 ∷ 255 ∷ 255
+    ∷ 9 ∷ 3 ∷ 0 ∷ 0 ∷ 0 ∷ 0 ∷ 0 ∷ 0 ∷ 0 ∷ 100 ∷ 0 ∷ 0 ∷ 0
+    ∷ []
+
+-- articles 0 and 1 of P alone: its first 45 bytes, with 2 articles counted in byte 1
+abbrev pub filePair : List ℕ
+filePair = set (take 45 fileP) 1 2
+
+-- P with the least price there is, and with the greatest, for article 0: its bytes 20 to 23
+abbrev pub fileLeast : List ℕ
+fileLeast = take 20 fileP ++ (0 ∷ 0 ∷ 0 ∷ 128 ∷ drop 24 fileP)
+
+abbrev pub fileGreatest : List ℕ
+fileGreatest = take 20 fileP ++ (255 ∷ 255 ∷ 255 ∷ 127 ∷ drop 24 fileP)
+
 -- B: articles 0 {wish 0}; 1 {0, 1}, which clashes with 0; 2 {2}; the order is {0, 1, 2}. The lines are those of A
 abbrev pub fileB : List ℕ
 fileB =

@@ -3,7 +3,8 @@
 use mathlib.Core.Path.{_≡_}
 use mathlib.Core.Bool.{true, false}
 use mathlib.Core.List.{List, [], _∷_, _++_}
-use Prim.Native.Nat.{ℕ, zero, suc, _+_, _*_, _/_, _%_, _^_}
+use Prim.Native.Nat.{ℕ, zero, suc, _+_, _-_, _*_, _/_, _%_, _^_}
+use lib.IntN.{ℤ, pos, negsuc}
 use lib.ListN.{length, take, drop, replicate, set}
 use Rattle.sets.specs.Sets.{member, count, setOf}
 use Rattle.sets.specs.Articles.{taking, givingUp}
@@ -15,6 +16,7 @@ use Rattle.jobfile.specs.Meaning.{spotIn}
 use Rattle.planning.specs.Rounds.{fittingOf, isPlan}
 use Rattle.arguments.specs.Answers.{Answer, value, onJob, Said, refusedBy, answered, said, Left}
 use Rattle.changes.specs.Change.{newOrder, newWishes, newClashes, newName}
+use Rattle.bill.specs.Price.{Bill, priceOf, priceWordsOf}
 use Rattle.calls.specs.Partition.{partitionOf}
 use Rattle.calls.specs.Pass.{Passed, passOf}
 use Rattle.calls.specs.Choose.{Chosen, chooseOf}
@@ -25,10 +27,10 @@ use Rattle.calls.specs.Name.{nameOf}
 use Rattle.calls.specs.Find.{findOf}
 use Rattle.calls.specs.Compare.{compareOf}
 use Rattle.calls.specs.Save.{saveOf}
-use Rattle.capi.specs.Returned.{Returned, returned, nothing, alone, passedWords, both, test, spotted}
+use Rattle.capi.specs.Returned.{Returned, returned, returnedThree, nothing, alone, passedWords, both, billWords, test, spotted}
 use Rattle.capi.specs.Version.{interfaceNumber}
 use Rattle.report.specs.Outcome.{outcomeOf, blankWords, textOf}
-use Rattle.examples.specs.Files.{fileA, fileShort, fileLong, fileFree, fileApart, fileB, fileCrossed, fileEmpty, fileMany, fileNamed, fileOf, fileStep, buffet, buffetApart, buffetByte, acuteDot, dotAcute, fileF, fileNear, fileG, fileBack}
+use Rattle.examples.specs.Files.{fileA, fileShort, fileLong, fileFree, fileApart, fileP, filePair, fileLeast, fileGreatest, fileB, fileCrossed, fileEmpty, fileMany, fileNamed, fileOf, fileStep, buffet, buffetApart, buffetByte, acuteDot, dotAcute, fileF, fileNear, fileG, fileBack}
 
 -- what the definitions give, and what the rules say
 pub record Row : Type 1 where
@@ -73,6 +75,13 @@ chosen x aside = answered (record { selection = x; aside = aside })
 abbrev keeps : ℕ → ℕ → Said Passed
 keeps left sum = answered (record { live = left; sum = sum })
 
+-- a selection with its total and its tax, in cents; an amount below zero
+abbrev costs : ℕ → ℤ → ℤ → Said (Bill ℤ)
+costs x total tax = answered (record { selection = x; total = total; tax = tax })
+
+abbrev minus : ℕ → ℤ
+minus n = negsuc (n - 1)
+
 -- the pairs of rounds that are a plan of a fitting: of a job with n steps the pair of a and b is the number a * 2 ^ n + b
 abbrev planPairs : Job (List ℕ) → ℕ
 planPairs job = setOf (2 ^ size job * 2 ^ size job) (λ i. isPlan (fittingOf job) (i / 2 ^ size job ∷ i % 2 ^ size job ∷ []))
@@ -103,6 +112,33 @@ rowsA =
     ∷ says (atFloor fileA 7) (refusedBy 14 1)
     ∷ says (atFloor fileShort 0) (refusedBy 2 45)
     ∷ says (atFloor fileLong 0) (refusedBy 8 46)
+    ∷ []
+
+-- P: its length; the price at rates with a tax of 0, of less than half a cent, of half a cent, of 9 and a half, of the total; a rate that is too high;
+-- the choice, and the comparison with A; its last byte off, also at such a rate; the last price 0; saved with another order. Two selections have the
+-- least total. Then its articles 0 and 1 alone; the least price and the greatest; A, which has no prices; and a file whose choice says 14 at 1
+abbrev rowsP : List Row
+rowsP =
+    is (length fileP) 58
+    ∷ says (priceOf fileP 0) (costs 5 (minus 50) (pos 0))
+    ∷ says (priceOf fileP 99) (costs 5 (minus 50) (pos 0))
+    ∷ says (priceOf fileP 100) (costs 5 (minus 50) (minus 1))
+    ∷ says (priceOf fileP 1900) (costs 5 (minus 50) (minus 10))
+    ∷ says (priceOf fileP 10000) (costs 5 (minus 50) (minus 50))
+    ∷ says (priceOf fileP 10001) (refusedBy 17 0)
+    ∷ says (atFloor fileP 0) (chosen 4 0)
+    ∷ says (compareOf fileA fileP) (answered true)
+    ∷ says (priceOf (take 57 fileP) 0) (refusedBy 2 57)
+    ∷ says (priceOf (take 57 fileP) 10001) (refusedBy 2 57)
+    ∷ says (priceOf (take 54 fileP ++ zeros 4) 0) (refusedBy 5 54)
+    ∷ leaves (saveOf fileP (newOrder 1) (nines 58)) (answered 58) (set fileP 3 1)
+    ∷ says (priceOf filePair 1900) (refusedBy 14 0)
+    ∷ says (priceOf filePair 10001) (refusedBy 17 0)
+    ∷ says (priceOf fileLeast 1900) (costs 5 (minus 2147483548) (minus 408021874))
+    ∷ says (priceOf fileGreatest 1900) (costs 6 (minus 50) (minus 10))
+    ∷ says (priceOf fileA 1900) (costs 4 (pos 0) (pos 0))
+    ∷ says (offerOf fileCrossed) (refusedBy 14 1)
+    ∷ says (priceOf fileCrossed 1900) (refusedBy 14 0)
     ∷ []
 
 -- B: its groups; the pass with all articles live, for the goals {0, 1, 2} and {0}; the program's choice, with article 0 set aside
@@ -200,7 +236,7 @@ rowsNumbers =
     ∷ says (chooseOf [] [] [] 0) (refusedBy 1 0)
     ∷ says (chooseOf fileF [] [] 0) (refusedBy 1 0)
     ∷ says (chooseOf fileMany [] [] 0) (refusedBy 3 1)
-    ∷ says (offerOf (set fileA 11 9)) (refusedBy 4 11)
+    ∷ says (offerOf (set fileA 11 17)) (refusedBy 4 11)
     ∷ says (offerOf (set fileA 12 0)) (refusedBy 5 12)
     ∷ says (offerOf (set fileNamed 13 0)) (refusedBy 5 13)
     ∷ says (offerOf (set fileA 3 7)) (refusedBy 6 3)
@@ -244,9 +280,12 @@ rowsSaving =
     ∷ leaves (saveOf fileF (newOrder 0) []) (refusedBy 1 0) []
     ∷ []
 
--- what each function of the C interface hands back of such answers: a status, and two words; its number
+-- what each function of the C interface hands back of such answers: a status, and two words, or three; its number
 abbrev handed : ℕ → ℕ → ℕ → Returned
 handed status first second = record { status = status; words = first ∷ second ∷ [] }
+
+abbrev handedThree : ℕ → ℕ → ℕ → ℕ → Returned
+handedThree status first second third = record { status = status; words = first ∷ second ∷ third ∷ [] }
 
 abbrev rowsC : List Row
 rowsC =
@@ -255,6 +294,9 @@ rowsC =
     ∷ is (returned both (said (chooseOf fileB groups (7 ∷ []) 0))) (handed 0 6 1)
     ∷ is (returned both (said (atFloor fileShort 0))) (handed 2 45 0)
     ∷ is (returned both (said (atFloor fileA 7))) (handed 14 1 0)
+    ∷ is (returnedThree billWords (said (priceWordsOf fileP 1900))) (handedThree 0 5 (2 ^ 64 - 50) (2 ^ 64 - 10))
+    ∷ is (returnedThree billWords (said (priceWordsOf (take 57 fileP) 1900))) (handedThree 2 57 0 0)
+    ∷ is (returnedThree billWords (said (priceWordsOf fileP 10001))) (handedThree 17 0 0 0)
     ∷ is (returned alone (factLayerOf fileG 1 (nines 33) .answer)) (handed 0 3 0)
     ∷ is (returned alone (roundLayerOf fileG 1 (nines 65) .answer)) (handed 0 (2 ^ 32 + 2 ^ 33) 0)
     ∷ is (returned alone (said (planOf fileF (nines 3)))) (handed 0 2 0)
@@ -267,7 +309,7 @@ rowsC =
     ∷ is (returned alone (saveOf fileA (newWishes 1 1) (nines 46) .answer)) (handed 0 46 0)
     ∷ is (returned alone (saveOf fileA (newClashes 1 2) [] .answer)) (handed 6 29 0)
     ∷ is (returned alone (saveOf fileA (newName 1 (nines 257)) [] .answer)) (handed 7 37 0)
-    ∷ is interfaceNumber 5
+    ∷ is interfaceNumber 6
     ∷ []
 
 -- what the program prints, in bytes: "chosen 1 2" and "aside 0" of B; "rounds 2", "1: 0" and "2: 1 2" of F; "refused 2 at 45"; "refused 14 at 0" of
@@ -307,4 +349,4 @@ rowsAnswers =
     ∷ []
 
 abbrev pub rows : List Row
-rows = rowsA ++ (rowsB ++ (rowsBound ++ (rowsF ++ (rowsNames ++ (rowsKeyboards ++ (rowsNumbers ++ (rowsSaving ++ (rowsC ++ (rowsText ++ (rowsSets ++ rowsAnswers))))))))))
+rows = rowsA ++ (rowsP ++ (rowsB ++ (rowsBound ++ (rowsF ++ (rowsNames ++ (rowsKeyboards ++ (rowsNumbers ++ (rowsSaving ++ (rowsC ++ (rowsText ++ (rowsSets ++ rowsAnswers)))))))))))

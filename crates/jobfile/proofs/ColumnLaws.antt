@@ -15,7 +15,6 @@ use Rattle.reading.specs.declared.Spot.{Spot}
 use Rattle.reading.specs.declared.item.Cursor.{Cursor}
 use Rattle.reading.specs.declared.item.Cursor.the-variants as Cursor
 use Rattle.jobfile.specs.declared.records.Kind.{Kind}
-use Rattle.jobfile.specs.declared.records.Kind.the-variants.{Choice, Fitting}
 use Rattle.jobfile.specs.declared.records.ReadRecord.{ReadRecord}
 use Rattle.jobfile.specs.declared.records.Records.{Records}
 use Rattle.reading.specs.Got.{Got, got, refused, Reader, andThen, eachAt, upFrom}
@@ -23,7 +22,7 @@ use Rattle.reading.specs.Items.{spots}
 use Rattle.jobfile.specs.Job.{Record}
 use Rattle.jobfile.specs.Read.{recordAt}
 use Rattle.reading.specs.Meaning.{readFrom}
-use Rattle.jobfile.specs.Meaning.{layoutBy, setsBy, recordOf, recordFrom, Tidy, recordsOf, Column, Columns}
+use Rattle.jobfile.specs.Meaning.{layoutBy, setsBy, amountsBy, recordOf, recordFrom, recordsOf, NamesWithin, Column, Columns}
 use Rattle.reading.proofs.StepLaws.{and-assoc, settled, advance}
 
 -- ---- columns
@@ -65,11 +64,7 @@ module _ (f : List ℕ) (kind : Kind) (count n : ℕ) (from : Cursor) where
     pub thirds : Column i third
     pub starting : Column i starts
     pub lengths : Column i lens
-    pub tidy : (j : ℕ) → Tidy kind (length f) (getD third j 0) (getD starts j 0) (getD lens j 0)
-
-  tidy-none : (size : ℕ) (k : Kind) → Tidy k size 0 0 0
-  tidy-none size Choice = (refl, zero-le)
-  tidy-none size Fitting = zero-le
+    pub within : NamesWithin (length f) starts lens
 
   pub records-start : let zeros = replicate {A = ℕ} 64 0 in ColumnsFilled zeros zeros zeros zeros zeros from 0
   unfolding listTo
@@ -81,7 +76,7 @@ module _ (f : List ℕ) (kind : Kind) (count n : ℕ) (from : Cursor) where
     thirds = column-none;
     starting = column-none;
     lengths = column-none;
-    tidy = λ j. rw (column-none .past j zero-le) (tidy-none (length f) kind);
+    within = λ j. omega (arith, column-none .past j zero-le);
   }
     where
       whole : (r : Got (List (Record Spot))) → r ≡ prepended [] r
@@ -89,7 +84,7 @@ module _ (f : List ℕ) (kind : Kind) (count n : ℕ) (from : Cursor) where
       whole (got xs b) = refl
 
   pub records-turn : (first second third starts lens : List ℕ) (next : Cursor) (i : ℕ) (r : ReadRecord) → ColumnsFilled first second third starts lens next i → i < n → n ≤ 64
-      → recordOf kind r ≡ readFrom next (recordAt spots (layoutBy kind) count i f) → Tidy kind (length f) (r .third) (r .spot .start) (r .spot .len)
+      → recordOf kind r ≡ readFrom next (recordAt spots (layoutBy kind) count i f) → r .spot .start + r .spot .len ≤ length f
       → ColumnsFilled (set first i (r .first)) (set second i (r .second)) (set third i (r .third)) (set starts i (r .spot .start)) (set lens i (r .spot .len)) (r .next) (i + 1)
   unfolding eachAt upFrom
   records-turn first second third starts lens next i r so l room e t = record {
@@ -100,7 +95,7 @@ module _ (f : List ℕ) (kind : Kind) (count n : ℕ) (from : Cursor) where
     thirds = column-set i third (r .third) (so .thirds);
     starting = column-set i starts (r .spot .start) (so .starting);
     lengths = column-set i lens (r .spot .len) (so .lengths);
-    tidy = λ j. tidied j (ℕ-discrete j i);
+    within = λ j. inside-file j (ℕ-discrete j i);
   }
     where
       old : List (Record Spot)
@@ -110,7 +105,7 @@ module _ (f : List ℕ) (kind : Kind) (count n : ℕ) (from : Cursor) where
       new = recordFrom kind (set first i (r .first)) (set second i (r .second)) (set third i (r .third)) (set starts i (r .spot .start)) (set lens i (r .spot .len))
 
       y : Record Spot
-      y = record { before = setsBy kind (r .first) (r .second) (r .third); name = r .spot; after = [] }
+      y = record { before = setsBy kind (r .first) (r .second) (r .third); name = r .spot; after = amountsBy kind (r .third) }
 
       inside : (xs : List ℕ) → Column i xs → i < length xs
       inside xs c = omega (arith, c .size)
@@ -148,23 +143,17 @@ module _ (f : List ℕ) (kind : Kind) (count n : ℕ) (from : Cursor) where
       onward : (at : ℕ) → prepended (old ++ (y ∷ [])) (eachAt item (upFrom (n - (i + 1)) (suc i)) f at) ≡ rest (i + 1) (listTo (i + 1) new) at
       onward at = rw (grown, add-one i)
 
-      tidied : (j : ℕ) → Dec (j ≡ i) → Tidy kind (length f) (getD (set third i (r .third)) j 0) (getD (set starts i (r .spot .start)) j 0) (getD (set lens i (r .spot .len)) j 0)
-      tidied j (yes q) =
-          rw (
-            q,
-            getD-set-same third i (r .third) 0 (inside third (so .thirds)),
-            getD-set-same starts i (r .spot .start) 0 (inside starts (so .starting)),
-            getD-set-same lens i (r .spot .len) 0 (inside lens (so .lengths)),
-          ) t
-      tidied j (no d) =
-          rw (getD-set-other third i j (r .third) 0 d, getD-set-other starts i j (r .spot .start) 0 d, getD-set-other lens i j (r .spot .len) 0 d) (so .tidy j)
+      inside-file : (j : ℕ) → Dec (j ≡ i) → getD (set starts i (r .spot .start)) j 0 + getD (set lens i (r .spot .len)) j 0 ≤ length f
+      inside-file j (yes q) =
+          rw (q, getD-set-same starts i (r .spot .start) 0 (inside starts (so .starting)), getD-set-same lens i (r .spot .len) 0 (inside lens (so .lengths))) t
+      inside-file j (no d) = rw (getD-set-other starts i j (r .spot .start) 0 d, getD-set-other lens i j (r .spot .len) 0 d) (so .within j)
 
   pub records-end : (r : Records) (i : ℕ) → ColumnsFilled (r .first) (r .second) (r .third) (r .starts) (r .lens) (r .next) i → n ≤ i
-      → (recordsOf kind n r ≡ readFrom from (eachAt (recordAt spots (layoutBy kind) count) (upFrom n 0) f)) × Columns kind n (length f) r
+      → (recordsOf kind n r ≡ readFrom from (eachAt (recordAt spots (layoutBy kind) count) (upFrom n 0) f)) × Columns n (length f) r
   unfolding eachAt upFrom
   records-end r i so h =
       let e : i ≡ n = omega (arith, so .upto) in
       let filled : ColumnsFilled (r .first) (r .second) (r .third) (r .starts) (r .lens) (r .next) n = subst (λ (k : ℕ). ColumnsFilled (r .first) (r .second) (r .third) (r .starts) (r .lens) (r .next) k) e so in (
         sym (filled .read ∙ same-from (r .next) _ (λ at. got (listTo n (recordFrom kind (r .first) (r .second) (r .third) (r .starts) (r .lens))) at) (λ at. let k : n - n ≡ 0 = omega arith in rw k (rw append-nil)) ∙ settled _ (r .next)),
-        record { first = filled .firsts; second = filled .seconds; third = filled .thirds; starts = filled .starting; lens = filled .lengths; tidy = filled .tidy },
+        record { first = filled .firsts; second = filled .seconds; third = filled .thirds; starts = filled .starting; lens = filled .lengths; within = filled .within },
       )

@@ -53,7 +53,7 @@ choice-sound = record {
   counts = (lit< tt, (lit< tt, tt));
   heads = (lit≤ tt, tt);
   before = ((lit< tt, lit≤ tt), ((lit< tt, lit≤ tt), tt));
-  after = tt;
+  after = (lit< tt, tt);
   few = lit≤ tt;
   longest = lit< tt;
 }

@@ -12,7 +12,7 @@ use Rattle.reading.specs.declared.Spot.{Spot}
 use Rattle.reading.specs.Got.{Got, got, refused, refuse, andThen, optional, eachAt, upFrom}
 use Rattle.reading.specs.Items.{bytesIn, spots, countAt, mapAt, setAt, lengthAt, nameAt}
 use Rattle.jobfile.specs.Layout.{Layout, nameBit, bits}
-use Rattle.jobfile.specs.Job.{Record, Job, column, namesOf}
+use Rattle.jobfile.specs.Job.{Record, Job, column, columnAfter, namesOf}
 use Rattle.jobfile.specs.Read.{fieldsAt, recordAt, bodyAt, layoutAt, read, readJob}
 use Rattle.jobfile.specs.Meaning.{spotIn, nameIn}
 
@@ -92,6 +92,9 @@ module _ (f : List ℕ) where
   -- the fields are not touched
   pub column-by : (k : ℕ) (records : List (Record Spot)) → column k (map recordBy records) ≡ column k records
   column-by k records = map-map (λ r. getD (r .before) k 0) recordBy records
+
+  pub after-by : (k : ℕ) (records : List (Record Spot)) → columnAfter k (map recordBy records) ≡ columnAfter k records
+  after-by k records = map-map (λ r. getD (r .after) k 0) recordBy records
 
   pub names-same : (records : List (Record Spot)) (i : ℕ) → getD (namesOf (map recordBy records)) i [] ≡ bytesAt f (getD (namesOf records) i (spots .absent))
   names-same [] i = refl

@@ -2,10 +2,10 @@
 use mathlib.Core.Path.{_≡_, refl, ap, sym, _∙_, subst}
 use mathlib.Core.Bool.{Bool, true, false, _||_}
 use mathlib.Core.List.{List, [], _∷_, map}
-use Prim.Native.Nat.{ℕ, _+_, _≤_, _<_, zero-le}
+use Prim.Native.Nat.{ℕ, _^_, _≤_, _<_, zero-le}
 use native.Mathlib.Decide.{decLt}
 use native.Mathlib.Omega.{arith}
-use lib.Dec.{eqb}
+use lib.Dec.{eqb, lit<}
 use lib.ListN.{length, getD, length-map, List·getD-eq-default, List·getD-map}
 use Rattle.sets.specs.Ranges.{listTo}
 use Rattle.sets.proofs.Ranges.{list-length, list-at, list-past, list-map}
@@ -25,13 +25,15 @@ use Rattle.jobfile.specs.declared.records.Records.{Records}
 use Rattle.reading.specs.Got.{Got, got, refused, eachAt, upFrom}
 use Rattle.reading.specs.Items.{Naming, spots, kindAt, countAt, setAt}
 use Rattle.jobfile.specs.Layout.{choice, fitting, kinds, layoutIn}
-use Rattle.jobfile.specs.Job.{Record, Job, namesOf, wishes, clashes, needs, gives, takes}
+use Rattle.jobfile.specs.Job.{Record, Job, namesOf, wishCount, wishes, clashes, prices, needs, gives, takes}
 use Rattle.jobfile.specs.Read.{recordAt, layoutAt, read, choices, fittings, either}
 use Rattle.jobfile.specs.Valid.{Bytes}
 use Rattle.reading.specs.Meaning.{gotBy, readFrom, finished, ended}
-use Rattle.jobfile.specs.Meaning.{lensOf, spotOf, spotIn, recordFrom, recordsOf, Tidy, Column, Columns, padded, startsOf, choiceRead, fittingRead, namesRead, Few, NamesWithin, ChoiceBounds, FittingBounds, NamesBounds}
+use Rattle.jobfile.specs.Meaning.{lensOf, spotOf, spotIn, recordFrom, recordsOf, Column, Columns, padded, startsOf, choiceRead, fittingRead, namesRead, Few, NamesWithin, ChoiceBounds, FittingBounds, NamesBounds}
 use Rattle.reading.proofs.StepLaws.{each-none, each-more}
 use Rattle.jobfile.proofs.StepLaws.{body-is, file-is}
+use Rattle.jobfile.proofs.NamingLaws.{mapGot, recordBy, jobBy, read-same, after-by}
+use Rattle.jobfile.proofs.StatedLaws.{amounts-below, choice-stated}
 
 -- ---- columns as arrays
 
@@ -47,16 +49,19 @@ padded-at size l h i = go (decLt i size)
     go (yes k) = list-at size (λ j. getD l j 0) 0 i k
     go (no k) = list-past size (λ j. getD l j 0) 0 i (omega arith) ∙ sym (List·getD-eq-default l 0 (omega arith))
 
+padded-below : (size bound : ℕ) (l : List ℕ) → 0 < bound → ((i : ℕ) → getD l i 0 < bound) → (i : ℕ) → getD (padded size l) i 0 < bound
+padded-below size bound l some h i = go (decLt i size)
+  where
+    go : Dec (i < size) → getD (padded size l) i 0 < bound
+    go (yes k) = omega (arith, list-at size (λ j. getD l j 0) 0 i k, h i)
+    go (no k) = omega (arith, list-past size (λ j. getD l j 0) 0 i (omega arith))
+
 -- if nothing was read, every element is 0
 pub nothing-there : (i : ℕ) → getD (padded 64 []) i 0 ≡ 0
 nothing-there i = padded-at 64 [] zero-le i
 
 within-none : (end : ℕ) → NamesWithin end (padded 64 []) (padded 64 [])
 within-none end i = omega (arith, nothing-there i)
-
-tidy-within : (kind : Kind) (end third start len : ℕ) → Tidy kind end third start len → start + len ≤ end
-tidy-within Choice end third start len t = t .1
-tidy-within Fitting end third start len t = t
 
 -- the records that the columns hold
 abbrev held : Kind → ℕ → Records → List (Record Spot)
@@ -73,9 +78,21 @@ module _ {A : Type 0} (value : A) (f : List ℕ) (next : Cursor) {end : Cursor} 
 
 -- ---- a choice file
 
+-- a price has 4 bytes
+prices-below : (f : List ℕ) → Bytes f → (i : ℕ) → getD (choiceRead (read spots choices f) .prices) i 0 < 2 ^ 32
+unfolding choice
+prices-below f bytes i = go (read spots choices f) refl
+  where
+    go : (g : Got (Job Spot)) → read spots choices f ≡ g → getD (choiceRead g .prices) i 0 < 2 ^ 32
+    go (refused reason place) e = omega (arith, nothing-there i)
+    go (got job end) e =
+        let stated = choice-stated f bytes (read-same f choices ∙ ap (mapGot (jobBy f)) e) in
+        let below = amounts-below choice (wishCount job) 0 4 refl 0 (map (recordBy f) (job .records)) (stated .records) in
+        padded-below 64 (2 ^ 32) (prices job) (lit< tt) (λ j. subst (λ (l : List ℕ). getD l j 0 < 2 ^ 32) (after-by f 0 (job .records)) (below j)) i
+
 module _ (f : List ℕ) (n w order : ℕ) (found : Records) (a b c d : Cursor)
     (kind : gotBy 67 a ≡ kindAt choices f 0) (first : gotBy n b ≡ readFrom a (countAt 1 64 f)) (second : gotBy w c ≡ readFrom b (countAt 1 64 f))
-    (head : gotBy order d ≡ readFrom c (setAt 8 w f)) (each : recordsOf Choice n found ≡ readFrom d (eachAt (recordAt spots choice w) (upFrom n 0) f)) where
+    (head : gotBy order d ≡ readFrom c (setAt 8 w f)) (each : recordsOf Choice n found ≡ readFrom d (eachAt (recordAt spots choice w) (upFrom n 0) f)) (bytes : Bytes f) where
   choiceJob : Job Spot
   choiceJob = record { kind = 67; counts = n ∷ w ∷ []; heads = order ∷ []; records = held Choice n found }
 
@@ -94,11 +111,11 @@ module _ (f : List ℕ) (n w order : ℕ) (found : Records) (a b c d : Cursor)
       → (x ≡ choiceRead (read spots choices f)) × ChoiceBounds f x
   choice-refused {end} {r} {x} e q h =
       let told = end-refused choiceJob f (found .next) e choice-read q in
-      (h ∙ ap choiceRead told, rw h (zero-le, zero-le, within-none (length f), subst (Few 64) told tt))
+      (h ∙ ap choiceRead told, rw h (zero-le, zero-le, within-none (length f), subst (Few 64) told tt, λ i. omega (arith, nothing-there i)))
 
   -- it was accepted
-  pub choice-accepted : {end : Cursor} {at : ℕ} → end ≡ finished (length f) (found .next) → end ≡ Cursor.At at → n ≤ 64 → w ≤ 64 → Columns Choice n (length f) found
-      → let x : ReadChoice = record { verdict = Verdict.Accepted; articles = n; «wish_count» = w; order = order; wishes = found .first; clashes = found .second; starts = found .starts; lens = found .lens } in
+  pub choice-accepted : {end : Cursor} {at : ℕ} → end ≡ finished (length f) (found .next) → end ≡ Cursor.At at → n ≤ 64 → w ≤ 64 → Columns n (length f) found
+      → let x : ReadChoice = record { verdict = Verdict.Accepted; articles = n; «wish_count» = w; order = order; wishes = found .first; clashes = found .second; prices = found .third; starts = found .starts; lens = found .lens } in
       (x ≡ choiceRead (read spots choices f)) × ChoiceBounds f x
   unfolding choiceJob
   choice-accepted {end} {at} e q ln lw ok =
@@ -106,15 +123,17 @@ module _ (f : List ℕ) (n w order : ℕ) (found : Records) (a b c d : Cursor)
       let from = recordFrom Choice (found .first) (found .second) (found .third) (found .starts) (found .lens) in
       let one = column-is n (found .first) (ok .first) from (λ r. getD (r .before) 0 0) (λ i. refl) in
       let two = column-is n (found .second) (ok .second) from (λ r. getD (r .before) 1 0) (λ i. refl) in
+      let three = column-is n (found .third) (ok .third) from (λ r. getD (r .after) 0 0) (λ i. refl) in
       let starts = column-is n (found .starts) (ok .starts) from (λ r. r .name .start) (λ i. refl) in
-      let lens = column-is n (found .lens) (ok .lens) from (λ r. r .name .len) (λ i. refl) in (
-        ap (λ (l : List ℕ). record { verdict = Verdict.Accepted; articles = n; «wish_count» = w; order = order; wishes = l; clashes = found .second; starts = found .starts; lens = found .lens }) one
-            ∙ ap (λ (l : List ℕ). record { verdict = Verdict.Accepted; articles = n; «wish_count» = w; order = order; wishes = padded 64 (wishes choiceJob); clashes = l; starts = found .starts; lens = found .lens }) two
-            ∙ ap (λ (l : List ℕ). record { verdict = Verdict.Accepted; articles = n; «wish_count» = w; order = order; wishes = padded 64 (wishes choiceJob); clashes = padded 64 (clashes choiceJob); starts = l; lens = found .lens }) starts
-            ∙ ap (λ (l : List ℕ). record { verdict = Verdict.Accepted; articles = n; «wish_count» = w; order = order; wishes = padded 64 (wishes choiceJob); clashes = padded 64 (clashes choiceJob); starts = padded 64 (startsOf (choiceJob .records)); lens = l }) lens
-            ∙ ap choiceRead told,
-        (ln, lw, λ i. tidy-within Choice (length f) _ _ _ (ok .tidy i), subst (Few 64) told (list-length n from, ln)),
-      )
+      let lens = column-is n (found .lens) (ok .lens) from (λ r. r .name .len) (λ i. refl) in
+      let same =
+      ap (λ (l : List ℕ). record { verdict = Verdict.Accepted; articles = n; «wish_count» = w; order = order; wishes = l; clashes = found .second; prices = found .third; starts = found .starts; lens = found .lens }) one
+      ∙ ap (λ (l : List ℕ). record { verdict = Verdict.Accepted; articles = n; «wish_count» = w; order = order; wishes = padded 64 (wishes choiceJob); clashes = l; prices = found .third; starts = found .starts; lens = found .lens }) two
+      ∙ ap (λ (l : List ℕ). record { verdict = Verdict.Accepted; articles = n; «wish_count» = w; order = order; wishes = padded 64 (wishes choiceJob); clashes = padded 64 (clashes choiceJob); prices = l; starts = found .starts; lens = found .lens }) three
+      ∙ ap (λ (l : List ℕ). record { verdict = Verdict.Accepted; articles = n; «wish_count» = w; order = order; wishes = padded 64 (wishes choiceJob); clashes = padded 64 (clashes choiceJob); prices = padded 64 (prices choiceJob); starts = l; lens = found .lens }) starts
+      ∙ ap (λ (l : List ℕ). record { verdict = Verdict.Accepted; articles = n; «wish_count» = w; order = order; wishes = padded 64 (wishes choiceJob); clashes = padded 64 (clashes choiceJob); prices = padded 64 (prices choiceJob); starts = padded 64 (startsOf (choiceJob .records)); lens = l }) lens
+      ∙ ap choiceRead told in
+      (same, (ln, lw, ok .within, subst (Few 64) told (list-length n from, ln), subst (λ (x : ReadChoice). (i : ℕ) → getD (x .prices) i 0 < 2 ^ 32) (sym same) (prices-below f bytes)))
 
 -- ---- a fitting file
 
@@ -142,7 +161,7 @@ module _ (f : List ℕ) (n m rounds begin goal : ℕ) (found : Records) (a b c d
       let told = end-refused fittingJob f (found .next) e fitting-read q in
       (h ∙ ap fittingRead told, rw h (zero-le, zero-le, zero-le, within-none (length f), subst (Few 32) told tt, bytes))
 
-  pub fitting-accepted : {end : Cursor} {at : ℕ} → end ≡ finished (length f) (found .next) → end ≡ Cursor.At at → n ≤ 32 → m ≤ 32 → rounds ≤ 16 → Columns Fitting n (length f) found
+  pub fitting-accepted : {end : Cursor} {at : ℕ} → end ≡ finished (length f) (found .next) → end ≡ Cursor.At at → n ≤ 32 → m ≤ 32 → rounds ≤ 16 → Columns n (length f) found
       → let x : ReadFitting = record { verdict = Verdict.Accepted; steps = n; facts = m; horizon = rounds; start = begin; goal = goal; needs = found .first; gives = found .second; takes = found .third; starts = found .starts; lens = found .lens } in
       (x ≡ fittingRead (read spots fittings f)) × FittingBounds f x
   unfolding fittingJob
@@ -160,7 +179,7 @@ module _ (f : List ℕ) (n m rounds begin goal : ℕ) (found : Records) (a b c d
             ∙ ap (λ (l : List ℕ). record { verdict = Verdict.Accepted; steps = n; facts = m; horizon = rounds; start = begin; goal = goal; needs = padded 64 (needs fittingJob); gives = padded 64 (gives fittingJob); takes = padded 64 (takes fittingJob); starts = l; lens = found .lens }) starts
             ∙ ap (λ (l : List ℕ). record { verdict = Verdict.Accepted; steps = n; facts = m; horizon = rounds; start = begin; goal = goal; needs = padded 64 (needs fittingJob); gives = padded 64 (gives fittingJob); takes = padded 64 (takes fittingJob); starts = padded 64 (startsOf (fittingJob .records)); lens = l }) lens
             ∙ ap fittingRead told,
-        (ln, lm, lr, λ i. tidy-within Fitting (length f) 0 _ _ (ok .tidy i), subst (Few 32) told (list-length n from, ln), bytes),
+        (ln, lm, lr, ok .within, subst (Few 32) told (list-length n from, ln), bytes),
       )
 
 -- ---- names of either kind
@@ -234,7 +253,7 @@ module _ (f : List ℕ) {b : Bool} (kind : b ≡ eqb (getD f 0 0) 70) where
 
   pub choice-names : {r : ReadChoice} {n : ℕ} → b ≡ false → r ≡ choiceRead (read spots choices f) → ChoiceBounds f r → n ≡ r .articles
       → (choiceNames r n ≡ namesRead (read spots either f)) × NamesBounds f (choiceNames r n)
-  choice-names {r} t e (articles, wanted, within, few) all =
+  choice-names {r} t e (articles, wanted, within, few, priced) all =
       let same = sym (either-choice spots f (sym kind ∙ t)) in
       (ap (choiceNames r) all ∙ ap (λ x. choiceNames x (x .articles)) e ∙ go (read spots choices f) ∙ ap namesRead same, (omega arith, within, subst (Few 64) same few))
     where

@@ -3,13 +3,14 @@ use mathlib.Core.Path.{_≡_, refl, ap, subst}
 use mathlib.Core.Option.{some}
 use mathlib.Core.List.{List, [], _∷_}
 use Prim.Native.Nat.{ℕ, zero, suc, _^_, _≤_, _<_}
+use native.Mathlib.Nat.{one-le-pow}
 use native.Mathlib.Omega.{arith}
 use lib.ListN.{length, getD, length-map}
 use lib.Pow.{pow-pos}
 use borrow.Author.Tests.{eqb-true}
 use Rattle.reading.specs.Got.{got}
 use Rattle.jobfile.specs.Layout.{counted, Field, set, amount, Layout, choice, fitting, kinds, layoutIn, layoutOf}
-use Rattle.jobfile.specs.Job.{Record, Job, column}
+use Rattle.jobfile.specs.Job.{Record, Job, column, columnAfter}
 use Rattle.jobfile.specs.Read.{readJob, choices, fittings}
 use Rattle.jobfile.specs.Valid.{Each, AllFrom, Bytes, Fits, ValidRecord}
 use Rattle.jobfile.proofs.FileLaws.{each-at, Body}
@@ -26,13 +27,21 @@ column-below layout count k bytes e i (r ∷ rs) o zero =
     subst (λ (x : Field). Fits count i x (getD (r .before) k 0)) e (each-at (Fits count i) (amount 0) 0 (omega arith) (layout .before) (r .before) (o .0 .before) k)
 column-below layout count k bytes e i (r ∷ rs) o (suc a) = column-below layout count k bytes e (suc i) rs (o .1) a
 
+-- a column of amounts
+pub amounts-below : (layout : Layout) (count k bytes : ℕ) → getD (layout .after) k (amount 0) ≡ amount bytes
+    → (i : ℕ) (records : List (Record (List ℕ))) → AllFrom (ValidRecord layout count) i records → (a : ℕ) → getD (columnAfter k records) a 0 < 256 ^ bytes
+amounts-below layout count k bytes e i [] o a = one-le-pow bytes 256 (omega arith)
+amounts-below layout count k bytes e i (r ∷ rs) o zero =
+    subst (λ (x : Field). Fits count i x (getD (r .after) k 0)) e (each-at (Fits count i) (amount 0) 0 (omega arith) (layout .after) (r .after) (o .0 .after) k)
+amounts-below layout count k bytes e i (r ∷ rs) o (suc a) = amounts-below layout count k bytes e (suc i) rs (o .1) a
+
 -- ---- by the layout of a choice
 
 pub choice-known : {job : Job (List ℕ)} → Body choice job → layoutOf (job .kind) ≡ some choice
 unfolding choice kinds layoutIn
 choice-known ok = ap layoutOf (ok .kind)
 
--- it has two counts and one head, and in a record two fields before the name and none after it
+-- it has two counts and one head, and in a record two fields before the name and one after it
 pub choice-counts : (counts : List ℕ) → Each (λ c v. v ≤ c .limit) (choice .counts) counts → counts ≡ getD counts 0 0 ∷ getD counts 1 0 ∷ []
 unfolding choice
 choice-counts [] o = absurd o
@@ -53,10 +62,11 @@ choice-fields w number (a ∷ []) o = absurd (o .1)
 choice-fields w number (a ∷ b ∷ []) o = refl
 choice-fields w number (a ∷ b ∷ x ∷ l) o = absurd (o .1 .1)
 
-pub choice-after : (w number : ℕ) (fields : List ℕ) → Each (Fits w number) (choice .after) fields → fields ≡ []
+pub choice-after : (w number : ℕ) (fields : List ℕ) → Each (Fits w number) (choice .after) fields → fields ≡ getD fields 0 0 ∷ []
 unfolding choice
-choice-after w number [] o = refl
-choice-after w number (a ∷ l) o = absurd o
+choice-after w number [] o = absurd o
+choice-after w number (p ∷ []) o = refl
+choice-after w number (p ∷ x ∷ l) o = absurd (o .1)
 
 -- ---- what is read as a choice has its layout, and so has a fitting
 

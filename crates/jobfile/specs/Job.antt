@@ -20,9 +20,12 @@ pub record Job (N : Type 0) : Type 0 where
 abbrev pub noRecord : Record (List ℕ)
 noRecord = record { before = []; name = []; after = [] }
 
--- field k of each record, of those before the name; and the name of each record
+-- field k of each record, of those before the name, and of those after it; and the name of each record
 abbrev pub column : {N : Type 0} → ℕ → List (Record N) → List ℕ
 column k records = map (λ r. getD (r .before) k 0) records
+
+abbrev pub columnAfter : {N : Type 0} → ℕ → List (Record N) → List ℕ
+columnAfter k records = map (λ r. getD (r .after) k 0) records
 
 abbrev pub namesOf : {N : Type 0} → List (Record N) → List N
 namesOf records = map (λ r. r .name) records
@@ -45,6 +48,10 @@ wishes job = column 0 (job .records)
 
 abbrev pub clashes : {N : Type 0} → Job N → List ℕ
 clashes job = column 1 (job .records)
+
+-- a price is the number that its bytes spell
+abbrev pub prices : {N : Type 0} → Job N → List ℕ
+prices job = columnAfter 0 (job .records)
 
 -- of a fitting
 abbrev pub factCount : {N : Type 0} → Job N → ℕ

@@ -41,7 +41,7 @@ nameBit layout = length (layout .before)
 abbrev pub bits : Layout → ℕ
 bits layout = suc (length (layout .before) + length (layout .after))
 
--- articles and wishes; the order; wishes and clashes with lower articles; a name of at most 32 bytes
+-- articles and wishes; the order; wishes and clashes with lower articles; a name of at most 32 bytes; a price
 unfoldable pub choice : Layout
 choice = record {
   kind = 67;
@@ -49,7 +49,7 @@ choice = record {
   heads = 8 ∷ [];
   before = set 8 counted ∷ set 8 own ∷ [];
   longest = 32;
-  after = [];
+  after = amount 4 ∷ [];
 }
 
 -- steps, facts and the horizon; start and goal; needs, gives and takes; a name of at most 32 bytes

@@ -1,7 +1,7 @@
 -- What the code's types mean.
 use mathlib.Core.Path.{_≡_}
 use mathlib.Core.List.{List, [], _∷_, map}
-use Prim.Native.Nat.{ℕ, _+_, _≤_}
+use Prim.Native.Nat.{ℕ, _+_, _^_, _≤_, _<_}
 use lib.ListN.{length, getD}
 use Rattle.sets.specs.Ranges.{listTo}
 use Rattle.reading.specs.declared.Spot.{Spot}
@@ -20,7 +20,7 @@ use Rattle.jobfile.specs.declared.ReadNames.{ReadNames}
 use Rattle.reading.specs.Items.{spots}
 use Rattle.jobfile.specs.Read.{read, choices, fittings, either}
 use Rattle.jobfile.specs.Valid.{Bytes}
-use Rattle.jobfile.specs.Job.{Record, Job, namesOf, size, wishCount, order, wishes, clashes, factCount, horizon, start, goal, needs, gives, takes}
+use Rattle.jobfile.specs.Job.{Record, Job, namesOf, size, wishCount, order, wishes, clashes, prices, factCount, horizon, start, goal, needs, gives, takes}
 
 -- ---- records, by the kind of their file
 
@@ -32,34 +32,38 @@ abbrev pub setsBy : Kind → ℕ → ℕ → ℕ → List ℕ
 setsBy Choice a b c = a ∷ b ∷ []
 setsBy Fitting a b c = a ∷ b ∷ c ∷ []
 
-abbrev pub recordOf : Kind → ReadRecord → Got (Record Spot)
-recordOf kind r = gotBy (record { before = setsBy kind (r .first) (r .second) (r .third); name = r .spot; after = [] }) (r .next)
+-- the third number of an article is its price
+abbrev pub amountsBy : Kind → ℕ → List ℕ
+amountsBy Choice c = c ∷ []
+amountsBy Fitting c = []
 
--- a record of a choice has no third set, and a name lies within its file
-abbrev pub Tidy : Kind → ℕ → ℕ → ℕ → ℕ → Type 0
-Tidy Choice size third start len = (third ≡ 0) × (start + len ≤ size)
-Tidy Fitting size third start len = start + len ≤ size
+abbrev pub recordOf : Kind → ReadRecord → Got (Record Spot)
+recordOf kind r = gotBy (record { before = setsBy kind (r .first) (r .second) (r .third); name = r .spot; after = amountsBy kind (r .third) }) (r .next)
 
 -- record i of the columns
 abbrev pub recordFrom : Kind → List ℕ → List ℕ → List ℕ → List ℕ → List ℕ → ℕ → Record Spot
 recordFrom kind first second third starts lens i =
-    record { before = setsBy kind (getD first i 0) (getD second i 0) (getD third i 0); name = record { start = getD starts i 0; len = getD lens i 0 }; after = [] }
+    record { before = setsBy kind (getD first i 0) (getD second i 0) (getD third i 0); name = record { start = getD starts i 0; len = getD lens i 0 }; after = amountsBy kind (getD third i 0) }
 
 abbrev pub recordsOf : Kind → ℕ → Records → Got (List (Record Spot))
 recordsOf kind n r = gotBy (listTo n (recordFrom kind (r .first) (r .second) (r .third) (r .starts) (r .lens))) (r .next)
 
--- the columns have 64 elements, 0 from n on, a choice has no third set, and names lie within the file
+-- every name lies within a file of this length
+abbrev pub NamesWithin : ℕ → List ℕ → List ℕ → Type 0
+NamesWithin end starts lens = (i : ℕ) → getD starts i 0 + getD lens i 0 ≤ end
+
+-- the columns have 64 elements, 0 from n on, and names lie within the file
 pub record Column (n : ℕ) (l : List ℕ) : Type 0 where
   pub size : length l ≡ 64
   pub past : (i : ℕ) → n ≤ i → getD l i 0 ≡ 0
 
-pub record Columns (kind : Kind) (n size : ℕ) (r : Records) : Type 0 where
+pub record Columns (n size : ℕ) (r : Records) : Type 0 where
   pub first : Column n (r .first)
   pub second : Column n (r .second)
   pub third : Column n (r .third)
   pub starts : Column n (r .starts)
   pub lens : Column n (r .lens)
-  pub tidy : (i : ℕ) → Tidy kind size (getD (r .third) i 0) (getD (r .starts) i 0) (getD (r .lens) i 0)
+  pub within : NamesWithin size (r .starts) (r .lens)
 
 -- ---- files
 
@@ -82,6 +86,7 @@ choiceRead (refused reason place) = record {
   order = 0;
   wishes = padded 64 [];
   clashes = padded 64 [];
+  prices = padded 64 [];
   starts = padded 64 [];
   lens = padded 64 [];
 }
@@ -92,6 +97,7 @@ choiceRead (got job end) = record {
   order = order job;
   wishes = padded 64 (wishes job);
   clashes = padded 64 (clashes job);
+  prices = padded 64 (prices job);
   starts = padded 64 (startsOf (job .records));
   lens = padded 64 (lensOf (job .records));
 }
@@ -134,10 +140,6 @@ abbrev pub Few : ℕ → Got (Job Spot) → Type 0
 Few limit (refused reason place) = Unit {0}
 Few limit (got job end) = (length (job .records) ≡ size job) × (size job ≤ limit)
 
--- every name lies within a file of this length
-abbrev pub NamesWithin : ℕ → List ℕ → List ℕ → Type 0
-NamesWithin end starts lens = (i : ℕ) → getD starts i 0 + getD lens i 0 ≤ end
-
 -- element i of the columns of names: 0 and 0 after their end
 abbrev pub spotOf : List ℕ → List ℕ → ℕ → Spot
 spotOf starts lens i = record { start = getD starts i 0; len = getD lens i 0 }
@@ -152,10 +154,10 @@ abbrev pub nameIn : Got (Job (List ℕ)) → ℕ → List ℕ
 nameIn (refused reason place) i = []
 nameIn (got job end) i = getD (namesOf (job .records)) i []
 
--- what a reader keeps to beside its equation: the limits, and names within the file; of a fitting also that the file is one of bytes, as the theorems
--- on what a file states ask
+-- what a reader keeps to beside its equation: the limits, and names within the file; of a choice also that a price has 4 bytes, and of a fitting that
+-- the file is one of bytes, as the theorems on what a file states ask
 abbrev pub ChoiceBounds : List ℕ → ReadChoice → Type 0
-ChoiceBounds f r = (r .articles ≤ 64) × (r .«wish_count» ≤ 64) × NamesWithin (length f) (r .starts) (r .lens) × Few 64 (read spots choices f)
+ChoiceBounds f r = (r .articles ≤ 64) × (r .«wish_count» ≤ 64) × NamesWithin (length f) (r .starts) (r .lens) × Few 64 (read spots choices f) × ((i : ℕ) → getD (r .prices) i 0 < 2 ^ 32)
 
 abbrev pub FittingBounds : List ℕ → ReadFitting → Type 0
 FittingBounds f r = (r .steps ≤ 32) × (r .facts ≤ 32) × (r .horizon ≤ 16) × NamesWithin (length f) (r .starts) (r .lens) × Few 32 (read spots fittings f) × Bytes f

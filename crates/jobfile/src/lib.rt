@@ -59,6 +59,7 @@ pub struct ReadChoice {
     pub order: u64,
     pub wishes: [u64; 64],
     pub clashes: [u64; 64],
+    pub prices: [u64; 64],
     pub starts: [usize; 64],
     pub lens: [usize; 64],
 }
@@ -98,6 +99,7 @@ fn no_choice(refusal: Refusal) -> ReadChoice
         order: 0,
         wishes: [0; 64],
         clashes: [0; 64],
+        prices: [0; 64],
         starts: [0; 64],
         lens: [0; 64],
     }
@@ -122,7 +124,7 @@ fn no_fitting(refusal: Refusal) -> ReadFitting
     }
 }
 
-// Reads a choice file. The names lie within it, and the counts keep to their limits.
+// Reads a choice file. The names lie within it, and the counts and prices keep to their limits.
 pub fn read_choice(file: &[u8]) -> ReadChoice
     ensures { λ r. ⌜ r ≡ choiceRead (read spots choices (now (file .entry))) ⌝ }
     ensures { λ r. ⌜ ChoiceBounds (now (file .entry)) r ⌝ }
@@ -144,6 +146,7 @@ pub fn read_choice(file: &[u8]) -> ReadChoice
         Cursor::At(_) => {
             let wishes = records.first;
             let clashes = records.second;
+            let prices = records.third;
             let starts = records.starts;
             let lens = records.lens;
             ReadChoice {
@@ -153,6 +156,7 @@ pub fn read_choice(file: &[u8]) -> ReadChoice
                 order: order.value,
                 wishes,
                 clashes,
+                prices,
                 starts,
                 lens,
             }

@@ -8,7 +8,7 @@ ghost use Rattle.jobfile.specs.Layout.{choice, fitting};
 ghost use Rattle.jobfile.specs.Read.{recordAt};
 ghost use Rattle.reading.specs.Meaning.{readFrom};
 ghost use Rattle.jobfile.specs.declared.records.Kind.the-variants as Kind;
-ghost use Rattle.jobfile.specs.Meaning.{layoutBy, recordOf, Tidy, recordsOf, Columns};
+ghost use Rattle.jobfile.specs.Meaning.{layoutBy, recordOf, recordsOf, Columns};
 use reading::Spot;
 use reading::item;
 use reading::item::Cursor;
@@ -23,8 +23,11 @@ pub const WISH_BYTES: usize = 8;
 // The bytes of a set of facts.
 pub const FACT_BYTES: usize = 4;
 
-// The fields that the record of an article may have: wishes, clashes, name.
-const ARTICLE_FIELDS: usize = 3;
+// The bytes of a price.
+pub const PRICE_BYTES: usize = 4;
+
+// The fields that the record of an article may have: wishes, clashes, name, price.
+const ARTICLE_FIELDS: usize = 4;
 
 // The fields that the record of a step may have: needs, gives, takes, name.
 const STEP_FIELDS: usize = 4;
@@ -35,7 +38,8 @@ pub enum Kind {
     Fitting,
 }
 
-// A record as it is read: its sets in the order of their bits, the third 0 for an article, and its name.
+// A record as it is read: its sets in the order of their bits, and its name. The third number of an
+// article is its price.
 pub struct ReadRecord {
     pub first: u64,
     pub second: u64,
@@ -44,10 +48,10 @@ pub struct ReadRecord {
     pub next: Cursor,
 }
 
-// The record of an article: wishes, clashes, name.
+// The record of an article: wishes, clashes, name, price.
 fn article(file: &[u8], from: Cursor, count: usize, own: usize) -> ReadRecord
     ensures { λ r. ⌜ recordOf Kind.Choice r ≡ readFrom from (recordAt spots choice count own (now (file .entry))) ⌝ }
-    ensures { λ r. ⌜ (r .third ≡ 0) × (r .spot .start + r .spot .len ≤ length (now (file .entry))) ⌝ }
+    ensures { λ r. ⌜ r .spot .start + r .spot .len ≤ length (now (file .entry)) ⌝ }
 {
     let map = item::bit_map(file, from, ARTICLE_FIELDS);
     let m = map.value;
@@ -58,11 +62,13 @@ fn article(file: &[u8], from: Cursor, count: usize, own: usize) -> ReadRecord
     let c = clashes.next;
     let named = item::name(file, c, word::bit_at(m, 2) == 1, NAME);
     let spot = named.spot;
-    let next = named.next;
+    let d = named.next;
+    let price = item::amount(file, d, word::bit_at(m, 3) == 1, PRICE_BYTES);
+    let next = price.next;
     ReadRecord {
         first: wishes.value,
         second: clashes.value,
-        third: 0,
+        third: price.value,
         spot,
         next,
     }
@@ -97,7 +103,7 @@ fn step(file: &[u8], from: Cursor, count: usize, own: usize) -> ReadRecord
 // The record of any kind.
 fn read_record(file: &[u8], from: Cursor, kind: Kind, count: usize, own: usize) -> ReadRecord
     ensures { λ r. ⌜ recordOf kind r ≡ readFrom from (recordAt spots (layoutBy kind) count own (now (file .entry))) ⌝ }
-    ensures { λ r. ⌜ Tidy kind (length (now (file .entry))) (r .third) (r .spot .start) (r .spot .len) ⌝ }
+    ensures { λ r. ⌜ r .spot .start + r .spot .len ≤ length (now (file .entry)) ⌝ }
 {
     match kind {
         Kind::Choice => article(file, from, count, own),
@@ -105,7 +111,7 @@ fn read_record(file: &[u8], from: Cursor, kind: Kind, count: usize, own: usize) 
     }
 }
 
-// All records, a column for each set and for the places of the names.
+// All records, a column for each number and for the places of the names.
 pub struct Records {
     pub first: [u64; 64],
     pub second: [u64; 64],
@@ -119,7 +125,7 @@ pub struct Records {
 pub fn read_records(file: &[u8], from: Cursor, kind: Kind, count: usize, n: usize) -> Records
     requires { ⌜ n ≤ 64 ⌝ }
     ensures { λ r. ⌜ recordsOf kind n r ≡ readFrom from (eachAt (recordAt spots (layoutBy kind) count) (upFrom n 0) (now (file .entry))) ⌝ }
-    ensures { λ r. ⌜ Columns kind n (length (now (file .entry))) r ⌝ }
+    ensures { λ r. ⌜ Columns n (length (now (file .entry))) r ⌝ }
 {
     let mut first = [0u64; 64];
     let mut second = [0u64; 64];

@@ -7,7 +7,7 @@ ghost use Prim.Native.Nat.{_+_, _≤_, _<_};
 ghost use lib.Dec.{ltb, eqb};
 ghost use lib.ListN.{length};
 ghost use Rattle.reading.specs.Got.{got, refuse, andThen, optional};
-ghost use Rattle.reading.specs.Items.{kindAt, valueAt, numberAt, countAt, mapAt, setAt, fieldAt, lengthAt, nameAt, spots};
+ghost use Rattle.reading.specs.Items.{kindAt, valueAt, numberAt, countAt, mapAt, setAt, amountAt, fieldAt, lengthAt, nameAt, spots};
 ghost use Rattle.reading.specs.Meaning.{gotBy, readFrom, itemGot, nameGot, placeOf, stopped, finished};
 use crate::Reason;
 use crate::Refusal;
@@ -194,6 +194,22 @@ pub fn field(file: &[u8], from: Cursor, marked: bool, bytes: usize, limit: usize
         Reason::AbsentMember,
         place(from),
     )
+}
+
+// An amount as a field of a record, likewise.
+pub fn amount(file: &[u8], from: Cursor, marked: bool, bytes: usize) -> Item
+    requires { ⌜ bytes ≤ 8 ⌝ }
+    ensures { λ r. ⌜ itemGot r ≡ readFrom from (optional marked 0 (amountAt bytes) (now (file .entry))) ⌝ }
+{
+    if !marked {
+        return Item {
+            value: 0,
+            next: from,
+        };
+    }
+    let item = number(file, from, bytes);
+    let read = item.value;
+    tested(item, read == 0, Reason::EmptyField, place(from))
 }
 
 // The length of a name.

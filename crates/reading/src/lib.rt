@@ -22,6 +22,7 @@ pub enum Reason {
     NoSelection,
     NoPlan,
     NameNotFound,
+    HighRate,
 }
 
 // A reason, and the place that the rules give it.
@@ -67,5 +68,6 @@ pub fn number(reason: Reason) -> u32
         Reason::NoSelection => 14,
         Reason::NoPlan => 15,
         Reason::NameNotFound => 16,
+        Reason::HighRate => 17,
     }
 }

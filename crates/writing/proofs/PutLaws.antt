@@ -51,8 +51,8 @@ byte-as y p e = put-as p (ap (λ (b : ℕ). b ∷ []) e)
 pub number-as : {old new : List ℕ} {at end k v : ℕ} (bytes number : ℕ) → Put old at (bytesOf k v) new end → k ≡ bytes → v ≡ number → Put old at (bytesOf bytes number) new end
 number-as bytes number p e d = put-as p (ap₂ bytesOf e d)
 
-pub field-as : {old new : List ℕ} {at end k v : ℕ} (bytes set : ℕ) → Put old at (fieldBytes k v) new end → k ≡ bytes → v ≡ set → Put old at (fieldBytes bytes set) new end
-field-as bytes set p e d = put-as p (ap₂ fieldBytes e d)
+pub field-as : {old new : List ℕ} {at end k v : ℕ} (bytes value : ℕ) → Put old at (fieldBytes k v) new end → k ≡ bytes → v ≡ value → Put old at (fieldBytes bytes value) new end
+field-as bytes value p e d = put-as p (ap₂ fieldBytes e d)
 
 -- what is put from the front on is in front, and the rest of the page is as it was
 pub put-whole : {old bytes new : List ℕ} {end : ℕ} → Put old 0 bytes new end → length bytes ≤ length old → new ≡ bytes ++ drop (length bytes) old
@@ -95,21 +95,21 @@ number-end page at bytes i v l = let e : bytes - i ≡ 0 = omega arith in rw e
 
 -- ---- fields
 
-pub field-none : (bytes set : ℕ) → set ≡ 0 → [] ≡ fieldBytes bytes set
+pub field-none : (bytes value : ℕ) → value ≡ 0 → [] ≡ fieldBytes bytes value
 unfolding fieldBytes
-field-none bytes set e = rw (eq-eqb set 0 e)
+field-none bytes value e = rw (eq-eqb value 0 e)
 
-pub field-some : (bytes set : ℕ) → (set ≡ 0 → ⊥) → bytesOf bytes set ≡ fieldBytes bytes set
+pub field-some : (bytes value : ℕ) → (value ≡ 0 → ⊥) → bytesOf bytes value ≡ fieldBytes bytes value
 unfolding fieldBytes
-field-some bytes set d = rw (ne-eqb set 0 d)
+field-some bytes value d = rw (ne-eqb value 0 d)
 
-pub field-most : (bytes set : ℕ) → length (fieldBytes bytes set) ≤ bytes
+pub field-most : (bytes value : ℕ) → length (fieldBytes bytes value) ≤ bytes
 unfolding fieldBytes
-field-most bytes set = go (eqb set 0)
+field-most bytes value = go (eqb value 0)
   where
-    go : (b : Bool) → length (cond b [] (bytesOf bytes set)) ≤ bytes
+    go : (b : Bool) → length (cond b [] (bytesOf bytes value)) ≤ bytes
     go true = omega arith
-    go false = omega (arith, length-bytes bytes set)
+    go false = omega (arith, length-bytes bytes value)
 
 pub name-none : (name : List ℕ) → length name ≡ 0 → [] ≡ nameBytes name
 unfolding nameBytes
@@ -121,7 +121,7 @@ unfolding nameBytes
 name-some [] d = absurd (d refl)
 name-some (b ∷ name) d = refl
 
-name-most : (name : List ℕ) → length (nameBytes name) ≤ suc (length name)
+pub name-most : (name : List ℕ) → length (nameBytes name) ≤ suc (length name)
 unfolding nameBytes
 name-most [] = omega arith
 name-most (b ∷ name) = omega arith
@@ -133,45 +133,48 @@ name-empty (b ∷ name) = sym (ne-eqb (suc (length name)) 0 (λ e. omega arith))
 
 -- ---- a record
 
-record-bytes : (wishes clashes : ℕ) (name : List ℕ) (map : ℕ) → map ≡ num (not (eqb wishes 0)) + 2 * num (not (eqb clashes 0)) + 4 * num (not (eqb (length name) 0))
-    → (map ∷ []) ++ (fieldBytes 8 wishes ++ (fieldBytes 8 clashes ++ nameBytes name)) ≡ writeRecord choice (articleBy wishes clashes name)
+record-bytes : (wishes clashes : ℕ) (name : List ℕ) (price map : ℕ) → map ≡ num (not (eqb wishes 0)) + 2 * num (not (eqb clashes 0)) + 4 * num (not (eqb (length name) 0)) + 8 * num (not (eqb price 0))
+    → (map ∷ []) ++ (fieldBytes 8 wishes ++ (fieldBytes 8 clashes ++ (nameBytes name ++ fieldBytes 4 price))) ≡ writeRecord choice (articleBy wishes clashes name price)
 unfolding writeRecord mapOf joined partsBytes fieldsBytes choice
-record-bytes wishes clashes name map e =
+record-bytes wishes clashes name price map e =
     ap₂ (λ (m : ℕ) (l : List ℕ). m ∷ l)
-    (rw (written-field 8 wishes (omega arith), written-field 8 clashes (omega arith), name-empty name) (omega arith))
-    (ap (λ (l : List ℕ). fieldBytes 8 wishes ++ (fieldBytes 8 clashes ++ l)) (sym (append-nil (nameBytes name))))
+    (rw (written-field 8 wishes (omega arith), written-field 8 clashes (omega arith), name-empty name, written-field 4 price (omega arith)) (omega arith))
+    (ap (λ (l : List ℕ). fieldBytes 8 wishes ++ (fieldBytes 8 clashes ++ (nameBytes name ++ l))) (sym (append-nil (fieldBytes 4 price))))
 
-pub record-put : {old a b c new : List ℕ} {at i j k end map : ℕ} (wishes clashes : ℕ) (name : List ℕ)
-    → Put old at (map ∷ []) a i → Put a i (fieldBytes 8 wishes) b j → Put b j (fieldBytes 8 clashes) c k → Put c k (nameBytes name) new end
-    → map ≡ num (not (eqb wishes 0)) + 2 * num (not (eqb clashes 0)) + 4 * num (not (eqb (length name) 0))
-    → Put old at (writeRecord choice (articleBy wishes clashes name)) new end
-record-put wishes clashes name p q r s e = put-as (put-append p (put-append q (put-append r s))) (record-bytes wishes clashes name _ e)
+pub record-put : {old a b c d new : List ℕ} {at i j k l end map : ℕ} (wishes clashes : ℕ) (name : List ℕ) (price : ℕ)
+    → Put old at (map ∷ []) a i → Put a i (fieldBytes 8 wishes) b j → Put b j (fieldBytes 8 clashes) c k → Put c k (nameBytes name) d l → Put d l (fieldBytes 4 price) new end
+    → map ≡ num (not (eqb wishes 0)) + 2 * num (not (eqb clashes 0)) + 4 * num (not (eqb (length name) 0)) + 8 * num (not (eqb price 0))
+    → Put old at (writeRecord choice (articleBy wishes clashes name price)) new end
+record-put wishes clashes name price p q r s t e = put-as (put-append p (put-append q (put-append r (put-append s t)))) (record-bytes wishes clashes name price _ e)
 
--- it takes at most 51 bytes if its name has at most 33
-record-most : (wishes clashes : ℕ) (name : List ℕ) → length name ≤ 33 → length (writeRecord choice (articleBy wishes clashes name)) ≤ 51
-record-most wishes clashes name h =
+-- it takes at most 55 bytes if its name has at most 33
+record-most : (wishes clashes : ℕ) (name : List ℕ) (price : ℕ) → length name ≤ 33 → length (writeRecord choice (articleBy wishes clashes name price)) ≤ 55
+record-most wishes clashes name price h =
     omega (
       arith,
-      ap length (record-bytes wishes clashes name _ refl),
-      length-append (fieldBytes 8 wishes) (fieldBytes 8 clashes ++ nameBytes name),
-      length-append (fieldBytes 8 clashes) (nameBytes name),
+      ap length (record-bytes wishes clashes name price _ refl),
+      length-append (fieldBytes 8 wishes) (fieldBytes 8 clashes ++ (nameBytes name ++ fieldBytes 4 price)),
+      length-append (fieldBytes 8 clashes) (nameBytes name ++ fieldBytes 4 price),
+      length-append (nameBytes name) (fieldBytes 4 price),
       field-most 8 wishes,
       field-most 8 clashes,
       name-most name,
+      field-most 4 price,
     )
 
-pub record-end : {old new : List ℕ} {at end : ℕ} (wishes clashes : ℕ) (name : List ℕ) → Put old at (writeRecord choice (articleBy wishes clashes name)) new end → length name ≤ 33 → end ≤ at + 51
-record-end wishes clashes name p h = omega (arith, p .next, record-most wishes clashes name h)
+pub record-end : {old new : List ℕ} {at end : ℕ} (wishes clashes : ℕ) (name : List ℕ) (price : ℕ) → Put old at (writeRecord choice (articleBy wishes clashes name price)) new end → length name ≤ 33 → end ≤ at + 55
+record-end wishes clashes name price p h = omega (arith, p .next, record-most wishes clashes name price h)
 
 -- the record of an article that has the other name, or the one that it is to keep
-pub other-name : {old new : List ℕ} {at end v w : ℕ} {other : Bool} (wishes clashes : ℕ) (name kept : List ℕ)
-    → Put old at (writeRecord choice (articleBy v w name)) new end → v ≡ wishes → w ≡ clashes → other ≡ true → Put old at (writeRecord choice (articleBy wishes clashes (cond other name kept))) new end
-other-name wishes clashes name kept p e d t = put-as p (rw (e, d, t))
+pub other-name : {old new : List ℕ} {at end v w u : ℕ} {other : Bool} (wishes clashes price : ℕ) (name kept : List ℕ)
+    → Put old at (writeRecord choice (articleBy v w name u)) new end → v ≡ wishes → w ≡ clashes → u ≡ price → other ≡ true
+    → Put old at (writeRecord choice (articleBy wishes clashes (cond other name kept) price)) new end
+other-name wishes clashes price name kept p e d c t = put-as p (rw (e, d, c, t))
 
-pub kept-name : {old new : List ℕ} {at end v w : ℕ} {other : Bool} (wishes clashes k len : ℕ) (name from : List ℕ)
-    → Put old at (writeRecord choice (articleBy v w (take k from))) new end → v ≡ wishes → w ≡ clashes → k ≡ len → other ≡ false
-    → Put old at (writeRecord choice (articleBy wishes clashes (cond other name (take len from)))) new end
-kept-name wishes clashes k len name from p e d q t = put-as p (rw (e, d, q, t))
+pub kept-name : {old new : List ℕ} {at end v w u : ℕ} {other : Bool} (wishes clashes price k len : ℕ) (name from : List ℕ)
+    → Put old at (writeRecord choice (articleBy v w (take k from) u)) new end → v ≡ wishes → w ≡ clashes → u ≡ price → k ≡ len → other ≡ false
+    → Put old at (writeRecord choice (articleBy wishes clashes (cond other name (take len from)) price)) new end
+kept-name wishes clashes price k len name from p e d c q t = put-as p (rw (e, d, c, q, t))
 
 -- ---- records one after the other
 

@@ -17,18 +17,18 @@ headBytes = 11
 abbrev pub nameMost : ℕ
 nameMost = 33
 
--- the most bytes of a record: the bit map, two sets of 8 bytes, and such a name with its length
+-- the most bytes of a record: the bit map, two sets of 8 bytes, such a name with its length, and a price of 4
 abbrev pub recordMost : ℕ
-recordMost = 51
+recordMost = 55
 
--- an article's record by its two sets and its name
-abbrev pub articleBy : ℕ → ℕ → List ℕ → Record (List ℕ)
-articleBy wishes clashes name = record { before = wishes ∷ clashes ∷ []; name = name; after = [] }
+-- an article's record by its two sets, its name and its price
+abbrev pub articleBy : ℕ → ℕ → List ℕ → ℕ → Record (List ℕ)
+articleBy wishes clashes name price = record { before = wishes ∷ clashes ∷ []; name = name; after = price ∷ [] }
 
 -- article i; its name is the one at its spot in the file, or the other one
 abbrev pub articleIn : List ℕ → ReadChoice → ℕ → List ℕ → ℕ → Record (List ℕ)
 articleIn file read number name i =
-    articleBy (getD (read .wishes) i 0) (getD (read .clashes) i 0) (cond (eqb i number) name (take (getD (read .lens) i 0) (drop (getD (read .starts) i 0) file)))
+    articleBy (getD (read .wishes) i 0) (getD (read .clashes) i 0) (cond (eqb i number) name (take (getD (read .lens) i 0) (drop (getD (read .starts) i 0) file))) (getD (read .prices) i 0)
 
 -- the whole choice; article `number` has the other name
 abbrev pub choiceIn : List ℕ → ReadChoice → ℕ → List ℕ → Job (List ℕ)

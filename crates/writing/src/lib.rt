@@ -11,6 +11,7 @@ ghost use Rattle.writing.specs.Put.{Put};
 ghost use Rattle.writing.specs.Meaning.{headBytes, nameMost, recordMost, articleBy, articleIn, choiceIn, Writable};
 use jobfile::CHOICE;
 use jobfile::ReadChoice;
+use jobfile::records::PRICE_BYTES;
 use jobfile::records::WISH_BYTES;
 
 // The bytes of a count.
@@ -22,6 +23,8 @@ const WISHES_MARK: u8 = 1;
 const CLASHES_MARK: u8 = 2;
 
 const NAME_MARK: u8 = 4;
+
+const PRICE_MARK: u8 = 8;
 
 // One byte.
 fn put_byte(page: &mut [u8], at: usize, byte: u8) -> usize
@@ -48,15 +51,15 @@ fn put_number(page: &mut [u8], at: usize, bytes: usize, number: u64) -> usize
     at + bytes
 }
 
-// A set as a field of a record: an empty one is left out.
-fn put_field(page: &mut [u8], at: usize, bytes: usize, set: u64) -> usize
+// A set or a price as a field of a record: 0 is left out.
+fn put_field(page: &mut [u8], at: usize, bytes: usize, value: u64) -> usize
     requires { ⌜ at + bytes ≤ length (now page) ⌝ }
-    ensures { λ r. ⌜ Put (now (page .entry)) at (fieldBytes bytes set) (now (page .exit)) r ⌝ }
+    ensures { λ r. ⌜ Put (now (page .entry)) at (fieldBytes bytes value) (now (page .exit)) r ⌝ }
 {
-    if set == 0 {
+    if value == 0 {
         return at;
     }
-    put_number(page, at, bytes, set)
+    put_number(page, at, bytes, value)
 }
 
 // Bytes as they are.
@@ -96,17 +99,26 @@ fn mark(empty: bool, bit: u8) -> u8
 }
 
 // An article's record.
-fn put_record(page: &mut [u8], at: usize, wishes: u64, clashes: u64, name: &[u8]) -> usize
+fn put_record(
+    page: &mut [u8],
+    at: usize,
+    wishes: u64,
+    clashes: u64,
+    name: &[u8],
+    price: u64,
+) -> usize
     requires { ⌜ (at + recordMost ≤ length (now page)) × (length (now name) ≤ nameMost) ⌝ }
-    ensures { λ r. ⌜ Put (now (page .entry)) at (writeRecord choice (articleBy wishes clashes (now (name .entry)))) (now (page .exit)) r ⌝ }
+    ensures { λ r. ⌜ Put (now (page .entry)) at (writeRecord choice (articleBy wishes clashes (now (name .entry)) price)) (now (page .exit)) r ⌝ }
 {
     let map = mark(wishes == 0, WISHES_MARK)
         + mark(clashes == 0, CLASHES_MARK)
-        + mark(name.len() == 0, NAME_MARK);
+        + mark(name.len() == 0, NAME_MARK)
+        + mark(price == 0, PRICE_MARK);
     let a = put_byte(page, at, map);
     let b = put_field(page, a, WISH_BYTES, wishes);
     let c = put_field(page, b, WISH_BYTES, clashes);
-    put_name(page, c, name)
+    let d = put_name(page, c, name);
+    put_field(page, d, PRICE_BYTES, price)
 }
 
 // The record of an article that has the other name, or keeps the one that is at its spot in the file.
@@ -115,6 +127,7 @@ fn put_article(
     at: usize,
     wishes: u64,
     clashes: u64,
+    price: u64,
     file: &[u8],
     start: usize,
     len: usize,
@@ -122,14 +135,14 @@ fn put_article(
     name: &[u8],
 ) -> usize
     requires { ⌜ (at + recordMost ≤ length (now page)) × (length (now name) ≤ nameMost) × (start + len ≤ length (now file)) × (len ≤ 32) ⌝ }
-    ensures { λ r. ⌜ Put (now (page .entry)) at (writeRecord choice (articleBy wishes clashes (cond other (now (name .entry)) (take len (drop start (now (file .entry))))))) (now (page .exit)) r ⌝ }
+    ensures { λ r. ⌜ Put (now (page .entry)) at (writeRecord choice (articleBy wishes clashes (cond other (now (name .entry)) (take len (drop start (now (file .entry))))) price)) (now (page .exit)) r ⌝ }
     ensures { λ r. ⌜ r ≤ at + recordMost ⌝ }
 {
     if other {
-        return put_record(page, at, wishes, clashes, name);
+        return put_record(page, at, wishes, clashes, name, price);
     }
     let end = start + len;
-    put_record(page, at, wishes, clashes, &file[start..end])
+    put_record(page, at, wishes, clashes, &file[start..end], price)
 }
 
 // The records of all articles.
@@ -147,6 +160,7 @@ fn put_records(
 {
     let wishes = read.wishes;
     let clashes = read.clashes;
+    let prices = read.prices;
     let starts = read.starts;
     let lens = read.lens;
     let mut k = at;
@@ -157,6 +171,7 @@ fn put_records(
             k,
             wishes[i],
             clashes[i],
+            prices[i],
             file,
             starts[i],
             lens[i],

@@ -3,7 +3,7 @@ use borrow.Author.Needs.{needs}
 use mathlib.Core.Path.{ap, _∙_}
 use native.Mathlib.Omega.{arith}
 use denote.Ref.{now}
-use Rattle.calls.proofs.CallLaws.{choice-read}
+use Rattle.arguments.proofs.JobLaws.{choice-read}
 use Rattle.calls.proofs.ChoiceLaws.{choose-down, choose-groups, choose-goals, choose-may, choose-made}
 use Rattle.calls.proofs.choose.Statement.{statement}
 use Rattle.calls.proofs.choose.Tie as tie

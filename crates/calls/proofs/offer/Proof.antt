@@ -3,7 +3,7 @@ use borrow.Author.Needs.{needs}
 use mathlib.Core.Path.{ap, _∙_}
 use native.Mathlib.Omega.{arith}
 use denote.Ref.{now}
-use Rattle.calls.proofs.CallLaws.{choice-read}
+use Rattle.arguments.proofs.JobLaws.{choice-read}
 use Rattle.calls.proofs.OfferLaws.{offer-down, offer-made}
 use Rattle.calls.proofs.offer.Statement.{statement}
 use Rattle.calls.proofs.offer.Tie as tie

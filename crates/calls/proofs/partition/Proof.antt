@@ -6,7 +6,7 @@ use native.Mathlib.Omega.{arith}
 use denote.Ref.{now}
 use lib.ListN.{length}
 use Rattle.arguments.proofs.TestLaws.{room-passed}
-use Rattle.calls.proofs.CallLaws.{choice-read}
+use Rattle.arguments.proofs.JobLaws.{choice-read}
 use Rattle.calls.proofs.ChoiceLaws.{partition-down, partition-short, partition-made}
 use Rattle.calls.proofs.partition.Statement.{statement}
 use Rattle.calls.proofs.partition.Tie as tie

@@ -7,7 +7,7 @@ use lib.ListN.{getD}
 use Rattle.network.proofs.GroupLaws.{lent-right}
 use Rattle.arguments.specs.Meaning.{networkIn}
 use Rattle.arguments.proofs.TestLaws.{groups-passed}
-use Rattle.calls.proofs.CallLaws.{choice-read}
+use Rattle.arguments.proofs.JobLaws.{choice-read}
 use Rattle.calls.proofs.ChoiceLaws.{pass-down, pass-groups, pass-goal, pass-made}
 use Rattle.calls.proofs.pass.Statement.{statement}
 use Rattle.calls.proofs.pass.Tie as tie

@@ -12,7 +12,7 @@ array-write-clashes : tie.Need-array-write-clashes
 array-write-clashes c = search needs
 
 returns : tie.Need-returns
-returns c = clashes-as (c .before .before .before .before .args .read) (omega arith) (omega arith)
+returns c = clashes-as (c .before .before .before .before .before .args .read) (omega arith) (omega arith)
 
 pub with-clashes-spec : {M : Type 1} → statement M
 with-clashes-spec = tie.close (tie.spec mul-clashes array-write-clashes returns)

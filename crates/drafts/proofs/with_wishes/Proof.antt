@@ -12,7 +12,7 @@ array-write-wishes : tie.Need-array-write-wishes
 array-write-wishes c = search needs
 
 returns : tie.Need-returns
-returns c = wishes-as (c .before .before .before .before .args .read) (omega arith) (omega arith)
+returns c = wishes-as (c .before .before .before .before .before .args .read) (omega arith) (omega arith)
 
 pub with-wishes-spec : {M : Type 1} → statement M
 with-wishes-spec = tie.close (tie.spec mul-wishes array-write-wishes returns)

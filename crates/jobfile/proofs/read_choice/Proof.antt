@@ -35,12 +35,12 @@ enum-told c = search needs
 returns : tie.Need-returns
 returns c =
     choice-refused (c .before .before .before .before .before .before .before .before .before .before .before .args .file .now) (c .before .before .before .before .before .before .before .before .count .result .value) (c .before .before .before .before .before .before .before .count2 .result .value) (c .before .before .before .before .before .before .set .result .value) (c .before .before .before .before .before .read-records .result) (c .before .before .before .before .before .before .before .before .before .kind .result) (c .before .before .before .before .before .before .before .before .count .result .next) (c .before .before .before .before .before .before .before .count2 .result .next) (c .before .before .before .before .before .before .set .result .next)
-    (c .before .before .before .before .before .before .before .before .before .kind .ensures) (c .before .before .before .before .before .before .before .before .count .ensures .0) (c .before .before .before .before .before .before .before .count2 .ensures .0) (c .before .before .before .before .before .before .set .ensures) (c .before .before .before .before .before .read-records .ensures .0) (c .before .before .before .before .finish .ensures) (c .before .before .end .given .1) (c .no-choice .ensures)
+    (c .before .before .before .before .before .before .before .before .before .kind .ensures) (c .before .before .before .before .before .before .before .before .count .ensures .0) (c .before .before .before .before .before .before .before .count2 .ensures .0) (c .before .before .before .before .before .before .set .ensures) (c .before .before .before .before .before .read-records .ensures .0) (λ k. omega (arith, c .before .before .before .before .before .before .before .before .before .before .shared-slice-known .given k)) (c .before .before .before .before .finish .ensures) (c .before .before .end .given .1) (c .no-choice .ensures)
 
 returns-2 : tie.Need-returns-2
 returns-2 c =
-    choice-accepted (c .before .before .before .before .before .before .before .before .before .before .before .before .before .args .file .now) (c .before .before .before .before .before .before .before .before .before .before .count .result .value) (c .before .before .before .before .before .before .before .before .before .count2 .result .value) (c .before .before .before .before .before .before .before .before .set .result .value) (c .before .before .before .before .before .before .before .read-records .result) (c .before .before .before .before .before .before .before .before .before .before .before .kind .result) (c .before .before .before .before .before .before .before .before .before .before .count .result .next) (c .before .before .before .before .before .before .before .before .before .count2 .result .next) (c .before .before .before .before .before .before .before .before .set .result .next)
-    (c .before .before .before .before .before .before .before .before .before .before .before .kind .ensures) (c .before .before .before .before .before .before .before .before .before .before .count .ensures .0) (c .before .before .before .before .before .before .before .before .before .count2 .ensures .0) (c .before .before .before .before .before .before .before .before .set .ensures) (c .before .before .before .before .before .before .before .read-records .ensures .0) (c .before .before .before .before .before .before .finish .ensures) (c .before .before .before .before .enum-told .given .1) (c .before .before .before .before .before .before .before .before .before .before .count .ensures .1) (c .before .before .before .before .before .before .before .before .before .count2 .ensures .1) (c .before .before .before .before .before .before .before .read-records .ensures .1)
+    choice-accepted (c .before .before .before .before .before .before .before .before .before .before .before .before .before .before .args .file .now) (c .before .before .before .before .before .before .before .before .before .before .before .count .result .value) (c .before .before .before .before .before .before .before .before .before .before .count2 .result .value) (c .before .before .before .before .before .before .before .before .before .set .result .value) (c .before .before .before .before .before .before .before .before .read-records .result) (c .before .before .before .before .before .before .before .before .before .before .before .before .kind .result) (c .before .before .before .before .before .before .before .before .before .before .before .count .result .next) (c .before .before .before .before .before .before .before .before .before .before .count2 .result .next) (c .before .before .before .before .before .before .before .before .before .set .result .next)
+    (c .before .before .before .before .before .before .before .before .before .before .before .before .kind .ensures) (c .before .before .before .before .before .before .before .before .before .before .before .count .ensures .0) (c .before .before .before .before .before .before .before .before .before .before .count2 .ensures .0) (c .before .before .before .before .before .before .before .before .before .set .ensures) (c .before .before .before .before .before .before .before .before .read-records .ensures .0) (λ k. omega (arith, c .before .before .before .before .before .before .before .before .before .before .before .before .before .shared-slice-known .given k)) (c .before .before .before .before .before .before .before .finish .ensures) (c .before .before .before .before .before .enum-told .given .1) (c .before .before .before .before .before .before .before .before .before .before .before .count .ensures .1) (c .before .before .before .before .before .before .before .before .before .before .count2 .ensures .1) (c .before .before .before .before .before .before .before .before .read-records .ensures .1)
 
 pub read-choice-spec : {M : Type 1} → statement M
 read-choice-spec =

@@ -18,8 +18,8 @@ returns c =
     let p = c .before .before .put-record in
     let w = c .before .before .before .before .before .before .before .before in
     let a = w .args in (
-      other-name (a .wishes) (a .clashes) (a .name .now) (take (a .len) (drop (a .start) (a .file .now))) (p .ensures) (omega arith) (omega arith) (c .before .before .before .before .if1 .taken),
-      record-end (a .wishes) (a .clashes) (a .name .now) (p .ensures) (omega (arith, w .pre .1)),
+      other-name (a .wishes) (a .clashes) (a .price) (a .name .now) (take (a .len) (drop (a .start) (a .file .now))) (p .ensures) (omega arith) (omega arith) (omega arith) (c .before .before .before .before .if1 .taken),
+      record-end (a .wishes) (a .clashes) (a .name .now) (a .price) (p .ensures) (omega (arith, w .pre .1)),
     )
 
 add-end : tie.Need-add-end
@@ -47,8 +47,8 @@ returns-2 c =
     let a = w .args in
     let from = drop (a .start) (a .file .now) in
     let k = a .start + a .len - a .start in (
-      kept-name (a .wishes) (a .clashes) k (a .len) (a .name .now) from (p .ensures) (omega arith) (omega arith) (omega arith) (c .before .before .before .before .before .if1 .left),
-      record-end (a .wishes) (a .clashes) (take k from) (p .ensures) (omega (arith, length-take k from, w .pre .3)),
+      kept-name (a .wishes) (a .clashes) (a .price) k (a .len) (a .name .now) from (p .ensures) (omega arith) (omega arith) (omega arith) (omega arith) (c .before .before .before .before .before .if1 .left),
+      record-end (a .wishes) (a .clashes) (take k from) (a .price) (p .ensures) (omega (arith, length-take k from, w .pre .3)),
     )
 
 pub put-article-spec : {M : Type 1} → statement M

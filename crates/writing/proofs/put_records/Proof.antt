@@ -1,4 +1,4 @@
--- `writing::put_records` meets its contract. The invariant: the records of the first articles are put, each in at most 51 bytes. The measure is how
+-- `writing::put_records` meets its contract. The invariant: the records of the first articles are put, each in at most 55 bytes. The measure is how
 -- many are left.
 use borrow.Author.Needs.{needs}
 use mathlib.Core.Path.{_≡_, ap}
@@ -16,15 +16,15 @@ use Rattle.writing.proofs.put_records.Statement.{statement}
 use Rattle.writing.proofs.put_records.Tie as tie
 
 abbrev Inv-loop : tie.InvT-loop
-Inv-loop page₀ at file read number name wishes clashes starts lens k₀ i₀ page k i =
-    (i ≤ read .articles) × (k ≤ at + 51 * i) × Put page₀ at (writeAll (writeRecord choice) (listTo i (articleIn file read number name))) page k
+Inv-loop page₀ at file read number name wishes clashes prices starts lens k₀ i₀ page k i =
+    (i ≤ read .articles) × (k ≤ at + 55 * i) × Put page₀ at (writeAll (writeRecord choice) (listTo i (articleIn file read number name))) page k
 
 abbrev μ-loop : tie.MeasureT-loop
-μ-loop page₀ at file read number name wishes clashes starts lens k₀ i₀ page k i = read .articles - i
+μ-loop page₀ at file read number name wishes clashes prices starts lens k₀ i₀ page k i = read .articles - i
 
 loop-holds : tie.Need-loop-holds Inv-loop μ-loop
 loop-holds c =
-    let a = c .before .before .before .before .before .before .before .args in
+    let a = c .before .before .before .before .before .before .before .before .args in
     (omega arith, omega arith, put-as (put-none (a .page .now) (a .at) (omega arith)) (all-none (writeRecord choice) (articleIn (a .file .now) (a .read) (a .number) (a .name .now))))
 
 mul-put-article : tie.Need-mul-put-article Inv-loop μ-loop
@@ -51,9 +51,15 @@ mul-put-article-4 c = search needs
 array-read-put-article-4 : tie.Need-array-read-put-article-4 Inv-loop μ-loop
 array-read-put-article-4 c = search needs
 
+mul-put-article-5 : tie.Need-mul-put-article-5 Inv-loop μ-loop
+mul-put-article-5 c = search needs
+
+array-read-put-article-5 : tie.Need-array-read-put-article-5 Inv-loop μ-loop
+array-read-put-article-5 c = search needs
+
 put-article-requires : tie.Need-put-article-requires Inv-loop μ-loop
 put-article-requires c κs =
-    let w = c .before .before .before .before .before .before .before .before .before .before .before in
+    let w = c .before .before .before .before .before .before .before .before .before .before .before .before in
     let l = c .before .before .before .loop in (
       omega (arith, l .inv .1, l .inv .2 .same, w .pre .0, c .before .if1 .taken),
       w .pre .1 .1,
@@ -69,7 +75,7 @@ loop-less c = search needs
 
 loop-again : tie.Need-loop-again Inv-loop μ-loop
 loop-again c =
-    let a = c .before .before .before .before .before .before .before .before .before .before .before .before .before .before .args in
+    let a = c .before .before .before .before .before .before .before .before .before .before .before .before .before .before .before .args in
     let l = c .before .before .before .before .before .before .loop in
     let p = c .before .before .put-article in
     let article : ℕ → Record (List ℕ) = articleIn (a .file .now) (a .read) (a .number) (a .name .now) in
@@ -85,7 +91,7 @@ same-length c = search needs
 
 returns : tie.Need-returns Inv-loop μ-loop
 returns c =
-    let a = c .before .before .before .before .before .before .before .before .before .before .args in
+    let a = c .before .before .before .before .before .before .before .before .before .before .before .args in
     let l = c .before .before .loop in
     let end : l .i ≡ a .read .articles = omega (arith, l .inv .0, c .if1 .left) in (
       put-as (l .inv .2) (ap (λ (n : ℕ). writeAll (writeRecord choice) (listTo n (articleIn (a .file .now) (a .read) (a .number) (a .name .now)))) end),
@@ -107,6 +113,8 @@ put-records-spec =
     array-read-put-article-3
     mul-put-article-4
     array-read-put-article-4
+    mul-put-article-5
+    array-read-put-article-5
     put-article-requires
     add-i
     loop-less

@@ -1,0 +1,2 @@
+-- What the call that prices answers.
+pub mod Price
