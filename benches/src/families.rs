@@ -1,17 +1,21 @@
 //! The families of instances. The seed is fixed, so every run has the same instances.
 
+mod catalogues;
 pub mod fittings;
 pub mod networks;
+pub mod priced;
 pub mod random;
 mod worst;
 
 use crate::job::{Choice, Fitting, Question, Step};
+use priced::Prices;
 use random::Random;
 
 #[derive(Clone, Copy, PartialEq)]
 pub enum Kind {
     Choice,
     Fitting,
+    Price,
 }
 
 /// Questions that follow each other under the same label are one instance, measured as a whole.
@@ -50,10 +54,50 @@ const FITTING: [(&str, Draw); 10] = [
     ("worst found", worst::fittings),
 ];
 
+const PRICE: [(&str, Draw); 32] = [
+    ("001, catalogue prices", |random| priced::networks(random, Prices::Catalogue)),
+    ("001, half negative", |random| priced::networks(random, Prices::HalfNegative)),
+    ("001, any prices", |random| priced::networks(random, Prices::Any)),
+    ("001, no prices", |random| priced::networks(random, Prices::Zero)),
+    ("cliques 8x8, catalogue prices", |random| priced::cliques(random, Prices::Catalogue)),
+    ("cliques 8x8, equal prices", |random| priced::cliques(random, Prices::Equal)),
+    ("cliques 8x8, half negative", |random| priced::cliques(random, Prices::HalfNegative)),
+    ("6 carriers, by wishes", |random| priced::six_carriers(random, Prices::ByWishes)),
+    ("6 carriers, half negative", |random| priced::six_carriers(random, Prices::HalfNegative)),
+    ("catalogues", catalogues::catalogues),
+    ("8 rooms of 8", priced::rooms),
+    ("odd rings", priced::rings),
+    ("odd rings of trade-ins", priced::rings_of_trade_ins),
+    ("order empty, negative", |random| priced::trade_ins(random, Prices::Negative)),
+    ("order empty, all -1", |random| priced::trade_ins(random, Prices::MinusOne)),
+    ("order empty, 4-regular", |random| priced::regular(random, 4)),
+    ("order empty, 6-regular", |random| priced::regular(random, 6)),
+    ("3 wishes, catalogue prices", |random| priced::without_clashes(random, 3, Prices::Catalogue)),
+    ("3 wishes, equal prices", |random| priced::without_clashes(random, 3, Prices::Equal)),
+    ("3 wishes, by wishes", |random| priced::without_clashes(random, 3, Prices::ByWishes)),
+    ("6 wishes, catalogue prices", |random| priced::without_clashes(random, 6, Prices::Catalogue)),
+    ("6 wishes, equal prices", |random| priced::without_clashes(random, 6, Prices::Equal)),
+    ("6 wishes, by wishes", |random| priced::without_clashes(random, 6, Prices::ByWishes)),
+    ("12 wishes, catalogue prices", |random| priced::without_clashes(random, 12, Prices::Catalogue)),
+    ("12 wishes, equal prices", |random| priced::without_clashes(random, 12, Prices::Equal)),
+    ("12 wishes, by wishes", |random| priced::without_clashes(random, 12, Prices::ByWishes)),
+    ("pigeonholes", priced::pigeonholes),
+    ("3-SAT, 1 to 9", |random| priced::three_sat(random, Prices::OneToNine)),
+    ("3-SAT, equal prices", |random| priced::three_sat(random, Prices::Equal)),
+    ("3-SAT, half negative", |random| priced::three_sat(random, Prices::HalfNegative)),
+    ("small networks", priced::small_networks),
+    ("worst found", worst::prices),
+];
+
+/// Those of choice and fitting.
 pub fn all(seed: u64) -> Vec<Family> {
     let choice = CHOICE.map(|(name, draw)| (name, Kind::Choice, draw));
     let fitting = FITTING.map(|(name, draw)| (name, Kind::Fitting, draw));
     choice.into_iter().chain(fitting).map(|(name, kind, draw)| family(seed, name, kind, draw)).collect()
+}
+
+pub fn prices(seed: u64) -> Vec<Family> {
+    PRICE.into_iter().map(|(name, draw)| family(seed, name, Kind::Price, draw)).collect()
 }
 
 /// Each family has a generator of its own, so that a change to one leaves the others as they are.
@@ -68,7 +112,7 @@ fn family(seed: u64, name: &'static str, kind: Kind, draw: Draw) -> Family {
 
 fn valid(question: &Question) -> bool {
     match question {
-        Question::Choose { job, .. } => valid_choice(job),
+        Question::Choose { job, .. } | Question::Price { job, .. } => valid_choice(job),
         Question::Plan { job } => valid_fitting(job),
     }
 }

@@ -1,7 +1,7 @@
 //! How the cost grows with the size of a job: at each point some drawn instances, of ours and of the twin.
 
 use crate::families::random::Random;
-use crate::families::{fittings, networks, Instances};
+use crate::families::{fittings, networks, priced, Instances};
 use crate::job::{Fitting, Question};
 use crate::table::Figures;
 
@@ -58,11 +58,16 @@ pub fn all(seed: u64) -> Vec<Series> {
         points(random, 3..=8, steps("lamps, odd goal"), |random, n| plan(fittings::drawn_lamps(random, n, true))),
         points(random, 3..=8, steps("variables, 2 asked for"), |random, n| plan(fittings::valued(random, n, 2, 2))),
     ];
+    let priced = points(random, eights(), articles, priced::network_of_size);
+    let covers = |n: usize| format!("{n} articles, {n} wishes");
+    let by_covers = points(random, eights(), covers, priced::covers_of_size);
     vec![
         Series { title: "Choice, by articles: random networks", points: by_articles },
         Series { title: "Choice, by wishes: random networks", points: by_wishes },
         Series { title: "Fitting, by horizon", points: by_horizon.concat() },
         Series { title: "Fitting, by steps", points: by_steps.concat() },
+        Series { title: "Price, by articles: random networks, catalogue prices", points: priced },
+        Series { title: "Price, by articles: 6 wishes each, no clashes, equal prices", points: by_covers },
     ]
 }
 

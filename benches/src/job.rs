@@ -5,6 +5,8 @@ pub struct Article {
     pub wishes: u64,
     /// Only articles of lower number.
     pub clashes: u64,
+    /// In cents.
+    pub price: i32,
 }
 
 #[derive(Clone, Debug)]
@@ -35,9 +37,14 @@ pub struct Fitting {
 pub enum Question {
     /// The smallest selection at or above the floor, with our own partition and the order as the only goal.
     Choose { job: Choice, floor: u64 },
+    /// The cheapest selection, with its total and the tax on it.
+    Price { job: Choice, rate: u64 },
     /// A shortest plan.
     Plan { job: Fitting },
 }
+
+/// In the place of a name.
+const NAMELESS: &[u8] = &[];
 
 /// A record: its bit map, then the fields that are not zero.
 fn record(file: &mut Vec<u8>, fields: &[&[u8]]) {
@@ -54,7 +61,8 @@ impl Choice {
         let mut file = vec![67, self.articles.len() as u8, self.wishes as u8];
         file.extend_from_slice(&self.order.to_le_bytes());
         for article in &self.articles {
-            record(&mut file, &[&article.wishes.to_le_bytes(), &article.clashes.to_le_bytes()]);
+            let [wishes, clashes] = [article.wishes, article.clashes].map(u64::to_le_bytes);
+            record(&mut file, &[&wishes, &clashes, NAMELESS, &article.price.to_le_bytes()]);
         }
         file
     }

@@ -1,4 +1,4 @@
-//! Benchmarks: the proved library beside its unproved twin and beside clasp and CaDiCaL, as ratios within one run.
+//! Benchmarks: the proved library beside its unproved twin and beside clasp, CaDiCaL and CBC, as ratios within one run.
 
 mod check;
 mod families;
@@ -11,21 +11,23 @@ mod stack;
 mod table;
 mod twin;
 
-use families::{Instances, Kind};
+use families::{Family, Instances, Kind};
 use job::Question;
 use measure::{Asked, Case, Effort, Reply};
-use peers::{Peer, PeerTime, Peers};
+use peers::{Peer, PeerTime, Peers, Sought};
 use stack::Stack;
 use std::path::Path;
 use std::process::ExitCode;
-use table::{Figures, Rival, Time, RIVALS};
+use table::{Figures, Rival, Time};
 
 const SEED: u64 = 20_071_108;
 
 /// The script ./bench looks at these words first and says what each means; its --install-peers does not come here.
-const USAGE: &str = "usage: bench [--family NAME] [--quick] [--growth] [--no-peers] [--peers-limit SECONDS]";
+const USAGE: &str = "usage: bench [--prices] [--family NAME] [--quick] [--growth] [--no-peers] [--peers-limit SECONDS]";
 
 struct Options {
+    /// The families of prices, in place of those of choice and fitting.
+    prices: bool,
     /// Only families whose name has this part.
     family: String,
     peers: bool,
@@ -38,9 +40,11 @@ struct Options {
 }
 
 fn options(mut words: impl Iterator<Item = String>) -> Option<Options> {
-    let mut options = Options { family: String::new(), peers: true, limit: 10.0, quick: false, growth: false };
+    let family = String::new();
+    let mut options = Options { prices: false, family, peers: true, limit: 10.0, quick: false, growth: false };
     while let Some(word) = words.next() {
         match word.as_str() {
+            "--prices" => options.prices = true,
             "--family" => options.family = words.next()?,
             "--no-peers" => options.peers = false,
             "--peers-limit" => options.limit = words.next()?.parse().ok().filter(|limit| *limit > 0.0)?,
@@ -50,6 +54,13 @@ fn options(mut words: impl Iterator<Item = String>) -> Option<Options> {
         }
     }
     Some(options)
+}
+
+impl Options {
+    fn families(&self) -> impl Iterator<Item = Family> + '_ {
+        let all = if self.prices { families::prices(SEED) } else { families::all(SEED) };
+        all.into_iter().filter(|family| family.name.contains(&self.family))
+    }
 }
 
 /// Questions that follow each other under one label are one case.
@@ -78,14 +89,19 @@ struct Bench {
 
 /// Of a case with more questions than this, peers get every hundredth, and their time is scaled up.
 const SAMPLED: usize = 100;
+/// Of a family of prices with more cases than this, peers get two: many take them longer than they have.
+const PRICED: usize = 7;
+
+/// Who is measured beside ours and the twin.
+type Rivals = [Option<Rival>; 3];
 
 impl Bench {
-    fn figures(&mut self, family: &str, case: &Case) -> Figures {
+    fn figures(&mut self, family: &str, case: &Case, rivals: Rivals) -> Figures {
         let mut counts = twin::Counts::default();
         let replies: Vec<Reply> = case.asked.iter().map(|asked| self.reply(family, case, asked, &mut counts)).collect();
         let (ours, twin) = measure::seconds(case, &self.effort);
         self.deepen(family, case);
-        let rivals = RIVALS.map(|rival| self.rival(rival, family, case, &replies));
+        let rivals = rivals.map(|rival| self.rival(rival?, family, case, &replies));
         Figures { label: case.label.clone(), ours, twin, nodes: counts.nodes, rivals }
     }
 
@@ -102,11 +118,11 @@ impl Bench {
         let mut complain = |what: String| self.faults.push(format!("{family}: {}: {what}", case.label));
         for (who, reply) in [("ours", &ours), ("the twin's", &twin)] {
             if let Some(fault) = asked.fault(reply) {
-                complain(format!("{who} {fault}: {:?}", reply.outcome));
+                complain(format!("{who} {fault}: {:?}", reply.told()));
             }
         }
         if !ours.agrees(&twin) {
-            complain(format!("ours is {:?}, the twin's {:?}", ours.outcome, twin.outcome));
+            complain(format!("ours is {:?}, the twin's {:?}", ours.told(), twin.told()));
         }
         ours
     }
@@ -124,7 +140,7 @@ impl Bench {
             asked_for += 1;
             if !time.agrees {
                 let name = rival.name();
-                self.faults.push(format!("{family}: {}: {name} disagrees with {:?}", case.label, reply.outcome));
+                self.faults.push(format!("{family}: {}: {name} disagrees with {:?}", case.label, reply.told()));
             }
         }
         total.seconds *= case.asked.len() as f64 / asked_for as f64;
@@ -132,11 +148,17 @@ impl Bench {
     }
 
     fn ask(&self, rival: Rival, question: &Question, answer: Option<u64>) -> Option<PeerTime> {
-        let peers = self.peers.as_ref()?;
-        match rival {
-            Rival::Clasp => peers.seconds(Peer::Clasp, question, answer, self.limit),
-            Rival::ClaspSmallest => peers.optimum_seconds(question, answer, self.limit),
-            Rival::Cadical => peers.seconds(Peer::Cadical, question, answer, self.limit),
+        let (peers, limit) = (self.peers.as_ref()?, self.limit);
+        match (rival, question) {
+            (Rival::Clasp, Question::Price { job, .. }) => peers.clasp_price(job, Sought::LeastTotal, answer, limit),
+            (Rival::ClaspSmallest, Question::Price { job, .. }) => {
+                peers.clasp_price(job, Sought::Smallest, answer, limit)
+            }
+            (Rival::Cbc, Question::Price { job, .. }) => peers.cbc_price(job, answer, limit),
+            (Rival::Cbc, _) => None,
+            (Rival::Clasp, _) => peers.seconds(Peer::Clasp, question, answer, limit),
+            (Rival::ClaspSmallest, _) => peers.optimum_seconds(question, answer, limit),
+            (Rival::Cadical, _) => peers.seconds(Peer::Cadical, question, answer, limit),
         }
     }
 }
@@ -153,18 +175,24 @@ those of the twin's search.",
 }
 
 /// How the table is read, and what the peers are asked.
-fn legend(bench: &Bench) {
+fn legend(bench: &Bench, kind: Kind) {
     println!("A column \"/\" has the ratio of ours to another: of the totals, and the largest of a single case.");
     if let Some(peers) = &bench.peers {
         println!(
             "The peers are processes, whose start is taken off; less than {} ms counts as that. They are only asked
-whether there is an answer, but for \"clasp, smallest\", which finds the selection itself. They have {} s a
+{}, but for \"clasp, smallest\", which finds the selection itself. They have {} s a
 question; where that was not enough it counts in their stead, and > marks the time, < the ratio. Of a series
 of more than {SAMPLED} questions they get every {SAMPLED}th, and their time is scaled up.",
             table::LEAST * 1000.0,
+            if kind == Kind::Price { "for the least total" } else { "whether there is an answer" },
             bench.limit
         );
-        for name in peers.missing() {
+        if kind == Kind::Price {
+            println!(
+                "Of a family of more than {PRICED} cases they get two, and the ratio of the totals is that of these."
+            );
+        }
+        for name in peers.missing(kind) {
             println!("{name} is missing; what needs it is left out.");
         }
     }
@@ -197,7 +225,8 @@ fn grow(bench: &mut Bench) {
     for series in growth::all(SEED) {
         println!("{}\n{}", series.title, growth::head());
         for (label, instances) in series.points {
-            let figures: Vec<Figures> = cases(instances).iter().map(|case| bench.figures(series.title, case)).collect();
+            let cases = cases(instances);
+            let figures: Vec<Figures> = cases.iter().map(|case| bench.figures(series.title, case, [None; 3])).collect();
             println!("{}", growth::row(&label, &figures));
         }
         println!();
@@ -205,19 +234,24 @@ fn grow(bench: &mut Bench) {
 }
 
 fn compare(bench: &mut Bench, options: &Options) {
-    legend(bench);
-    println!("{}", table::head());
+    let first = if options.prices { Kind::Price } else { Kind::Choice };
+    let rivals = table::rivals(first);
+    legend(bench, first);
+    println!("{}", table::head(rivals));
     let mut worst = String::new();
     let mut kind: Option<Kind> = None;
-    for family in families::all(SEED).into_iter().filter(|family| family.name.contains(&options.family)) {
+    for family in options.families() {
         if kind.replace(family.kind) != Some(family.kind) {
             println!("{}", table::title(family.kind));
         }
         let every = if options.quick { 4 } else { 1 };
         let cases: Vec<Case> = cases(family.instances).into_iter().step_by(every).collect();
-        let figures: Vec<Figures> = cases.iter().map(|case| bench.figures(family.name, case)).collect();
+        let every = if options.prices && cases.len() > PRICED { cases.len().div_ceil(2) } else { 1 };
+        let wanted = |number: usize| rivals.map(|rival| (number % every == 0).then_some(rival));
+        let measured = cases.iter().enumerate().map(|(number, case)| bench.figures(family.name, case, wanted(number)));
+        let figures: Vec<Figures> = measured.collect();
         println!("{}", table::row(family.name, &figures));
-        worst += &table::worst_cases(family.name, &figures);
+        worst += &table::worst_cases(family.name, rivals, &figures);
     }
     println!("\nThe cases of the largest figures\n{worst}");
 }
@@ -227,7 +261,7 @@ fn main() -> ExitCode {
         eprintln!("{USAGE}");
         return ExitCode::from(2);
     };
-    if !families::all(SEED).iter().any(|family| family.name.contains(&options.family)) {
+    if options.families().next().is_none() {
         eprintln!("bench: no family has '{}' in its name", options.family);
         return ExitCode::from(2);
     }

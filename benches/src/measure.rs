@@ -22,17 +22,24 @@ pub struct Case {
 /// Words of a lent buffer that no answer holds, to see which are kept.
 const KEPT: u32 = 0xdead_beef;
 
-/// All that comes of a question. A plan's outcome is its count of rounds and 0.
+type Outcome = Result<(u64, u64), (u32, u64)>;
+
+/// The total of a selection and the tax on it; 0 where no prices are asked for.
+type Bill = (i64, i64);
+
+/// All that comes of a question. The outcome has 0 beside a plan's count of rounds, and beside the cheapest selection.
 pub struct Reply {
-    pub outcome: Result<(u64, u64), (u32, u64)>,
+    pub outcome: Outcome,
     groups: [u8; 64],
     rounds: [u32; 16],
+    bill: Bill,
 }
 
 impl Asked {
     pub fn new(question: Question) -> Asked {
         let (file, order) = match &question {
             Question::Choose { job, .. } => (job.file(), job.order),
+            Question::Price { job, .. } => (job.file(), 0),
             Question::Plan { job } => (job.file(), 0),
         };
         let goals = if order == 0 { vec![] } else { vec![order] };
@@ -41,23 +48,25 @@ impl Asked {
 
     /// From the bytes of the file to the answer: for a choice, our own partition and then the selection.
     pub fn ours(&self) -> Reply {
-        let (mut groups, mut rounds) = ([0; 64], [KEPT; 16]);
+        let (mut groups, mut rounds, mut bill) = ([0; 64], [KEPT; 16], (0, 0));
         let outcome = match &self.question {
             Question::Choose { floor, .. } => ours::partition(&self.file, &mut groups)
                 .and_then(|()| ours::choose(&self.file, &groups, &self.goals, *floor)),
+            Question::Price { rate, .. } => billed(ours::price(&self.file, *rate), &mut bill),
             Question::Plan { .. } => ours::plan(&self.file, &mut rounds).map(|count| (count, 0)),
         };
-        Reply { outcome, groups, rounds }
+        Reply { outcome, groups, rounds, bill }
     }
 
     pub fn twin(&self, counts: &mut twin::Counts) -> Reply {
-        let (mut groups, mut rounds) = ([0; 64], [KEPT; 16]);
+        let (mut groups, mut rounds, mut bill) = ([0; 64], [KEPT; 16], (0, 0));
         let outcome = match &self.question {
             Question::Choose { floor, .. } => twin::partition(&self.file, &mut groups)
                 .and_then(|()| twin::choose(&self.file, &groups, &self.goals, *floor, counts)),
+            Question::Price { rate, .. } => billed(twin::price(&self.file, *rate, counts), &mut bill),
             Question::Plan { .. } => twin::plan(&self.file, &mut rounds, counts).map(|count| (count, 0)),
         };
-        Reply { outcome, groups, rounds }
+        Reply { outcome, groups, rounds, bill }
     }
 
     /// What is wrong with a reply, if anything is. That no smaller answer exists, and that "none" is true, is for the
@@ -70,7 +79,11 @@ impl Asked {
             (Question::Choose { .. }, Err((14, place))) => {
                 (place > self.goals.len() as u64).then_some("names no goal of the list")
             }
-            (Question::Choose { .. }, Err(_)) => Some("is refused"),
+            (Question::Price { job, rate }, Ok((selection, _))) => {
+                check::price_fault(job, *rate, Some((selection, reply.bill.0, reply.bill.1)))
+            }
+            (Question::Price { job, rate }, Err((14, 0))) => check::price_fault(job, *rate, None),
+            (Question::Choose { .. } | Question::Price { .. }, Err(_)) => Some("is refused"),
             (Question::Plan { job }, Ok((count, _))) if count > job.horizon as u64 => Some("is beyond the horizon"),
             (Question::Plan { job }, Ok((count, _))) => {
                 let (rounds, rest) = reply.rounds.split_at(count as usize);
@@ -82,10 +95,22 @@ impl Asked {
     }
 }
 
+/// The outcome, after the bill has been noted.
+fn billed(found: Result<(u64, i64, i64), (u32, u64)>, bill: &mut Bill) -> Outcome {
+    let (selection, total, tax) = found?;
+    *bill = (total, tax);
+    Ok((selection, 0))
+}
+
 impl Reply {
     /// Which of the shortest plans it is is free.
     pub fn agrees(&self, other: &Reply) -> bool {
-        self.outcome == other.outcome && self.groups == other.groups
+        self.told() == other.told() && self.groups == other.groups
+    }
+
+    /// What to say of it where it is at fault.
+    pub fn told(&self) -> (Outcome, Bill) {
+        (self.outcome, self.bill)
     }
 }
 

@@ -12,6 +12,7 @@ extern "C" {
         floor: u64,
         out: *mut u64,
     ) -> u32;
+    fn kitchen_price(file: *const u8, file_len: usize, rate: u64, out: *mut u64) -> u32;
     fn kitchen_plan(file: *const u8, file_len: usize, rounds: *mut u32, rounds_len: usize, out: *mut u64) -> u32;
 }
 
@@ -19,7 +20,7 @@ extern "C" {
 pub type Refusal = (u32, u64);
 
 /// A call returns 0 for an answer; otherwise the reason, and the place in the first word.
-fn outcome(reason: u32, out: [u64; 2]) -> Result<[u64; 2], Refusal> {
+fn outcome<const WORDS: usize>(reason: u32, out: [u64; WORDS]) -> Result<[u64; WORDS], Refusal> {
     if reason == 0 {
         Ok(out)
     } else {
@@ -51,6 +52,13 @@ pub fn choose(file: &[u8], groups: &[u8], goals: &[u64], floor: u64) -> Result<(
         )
     };
     outcome(reason, out).map(|[selection, aside]| (selection, aside))
+}
+
+/// The cheapest selection, its total, and the tax on it.
+pub fn price(file: &[u8], rate: u64) -> Result<(u64, i64, i64), Refusal> {
+    let mut out = [0; 3];
+    let reason = unsafe { kitchen_price(file.as_ptr(), file.len(), rate, out.as_mut_ptr()) };
+    outcome(reason, out).map(|[selection, total, tax]| (selection, total as i64, tax as i64))
 }
 
 /// The count of rounds.

@@ -1,7 +1,7 @@
-//! The peers that we are measured against: clasp, with the grounder gringo, and the SAT solver CaDiCaL. Each question
-//! is put to them as an instance file, which is written before the clock starts, and each runs as a process with its
-//! default settings. Its time is that from the start of the process to its end, less what the start takes on an empty
-//! instance. Below about a millisecond that difference is mostly noise.
+//! The peers that we are measured against: clasp, with the grounder gringo, the SAT solver CaDiCaL, and for prices CBC.
+//! Each question is put to them as an instance file, which is written before the clock starts, and each runs as a
+//! process with its default settings. Its time is that from the start of the process to its end, less what the start
+//! takes on an empty instance. Below about a millisecond that difference is mostly noise.
 //!
 //! If the question cannot be the same, it is easier for the peer:
 //! - Choice: we give the smallest selection at or above the floor. `seconds` asks only whether there is one, as a CNF.
@@ -10,6 +10,7 @@
 //! - Plan: we find the fewest rounds L. The peers are told L, and only asked whether a plan of L rounds exists and,
 //!   if L is not 0, that none of L - 1 rounds does; if we found no plan, that none of as many rounds as the
 //!   horizon exists. The times of the two are added.
+//! - Price: we give the smallest of the cheapest selections, its total and the tax (`prices.rs`).
 //!
 //! Plans are encoded with a variable a round for each fact and each step, and with frame axioms that explain each fact
 //! that appears or goes. What is absent in the layers of the planning graph has no variable, and the mutexes of the
@@ -19,6 +20,11 @@
 //! the layers, but variables for keepers in place of frame axioms, over 36.8 s (one job reached the limit of 30 s) and
 //! 7.8 s. A few hard jobs make up most of these sums.
 
+mod prices;
+
+pub use prices::Sought;
+
+use crate::families::Kind;
 use crate::job::{Choice, Fitting, Question, Step};
 use std::fmt::Write as _;
 use std::fs::{self, File};
@@ -61,6 +67,7 @@ pub struct Peers {
     /// Seconds that the start of the process takes; none if the program is missing.
     clasp: Option<f64>,
     cadical: Option<f64>,
+    cbc: Option<f64>,
     gringo: bool,
 }
 
@@ -69,14 +76,17 @@ impl Peers {
     pub fn find(dir: &Path) -> Peers {
         fs::create_dir_all(dir).expect("the folder for instances can be made");
         let empty = write(dir, "empty.cnf", &Cnf::default().text());
-        let [clasp, cadical] = starts([solver(Peer::Clasp, &empty), solver(Peer::Cadical, &empty)]);
+        let linear = write(dir, "empty.lp", prices::EMPTY);
+        let commands = [solver(Peer::Clasp, &empty), solver(Peer::Cadical, &empty), prices::cbc(&linear)];
+        let [clasp, cadical, cbc] = starts(commands);
         let gringo = run(Command::new("gringo").arg("--version"), PATIENCE).is_ok();
-        Peers { dir: dir.to_path_buf(), clasp, cadical, gringo }
+        Peers { dir: dir.to_path_buf(), clasp, cadical, cbc, gringo }
     }
 
-    /// The programs that were not found.
-    pub fn missing(&self) -> Vec<&'static str> {
-        let found = [("clasp", self.clasp.is_some()), ("gringo", self.gringo), ("cadical", self.cadical.is_some())];
+    /// The programs that were not found, of those that are asked for a kind of question.
+    pub fn missing(&self, kind: Kind) -> Vec<&'static str> {
+        let last = if kind == Kind::Price { ("cbc", self.cbc) } else { ("cadical", self.cadical) };
+        let found = [("clasp", self.clasp.is_some()), ("gringo", self.gringo), (last.0, last.1.is_some())];
         found.into_iter().filter(|(_, found)| !found).map(|(name, _)| name).collect()
     }
 
@@ -99,7 +109,7 @@ impl Peers {
         Some(time)
     }
 
-    /// The time of clasp for the smallest selection; none if clasp or gringo is missing, or if a plan is asked for.
+    /// The time of clasp for the smallest selection; none if clasp or gringo is missing, or for another question.
     pub fn optimum_seconds(&self, question: &Question, answer: Option<u64>, limit: f64) -> Option<PeerTime> {
         let start = self.clasp.filter(|_| self.gringo)?;
         let Question::Choose { job, floor } = question else { return None };
@@ -110,15 +120,20 @@ impl Peers {
             Some(SEARCHED) => answer.is_none(),
             _ => false,
         };
-        let mut time = PeerTime::none();
-        time.add(&run, start, agrees);
-        Some(time)
+        Some(PeerTime::of(&run, start, agrees))
     }
 }
 
 impl PeerTime {
     fn none() -> PeerTime {
         PeerTime { seconds: 0.0, timed_out: false, agrees: true }
+    }
+
+    /// Of one run.
+    fn of(run: &Run, start: f64, agrees: bool) -> PeerTime {
+        let mut time = PeerTime::none();
+        time.add(run, start, agrees);
+        time
     }
 
     fn add(&mut self, run: &Run, start: f64, agrees: bool) {
@@ -150,6 +165,8 @@ fn ground(dir: &Path, program: &str) -> PathBuf {
 // Processes.
 
 /// Exit codes. CaDiCaL ends with 10 as soon as it has a model; clasp adds the bits of 20 if it knows of nothing more.
+/// CBC only prints what it found.
+const DONE: i32 = 0;
 const MODEL: i32 = 10;
 const SEARCHED: i32 = 20;
 const SEARCHED_WITH_MODEL: i32 = 30;
@@ -240,7 +257,7 @@ fn starts<const COUNT: usize>(mut commands: [Command; COUNT]) -> [Option<f64>; C
 
 fn start(command: &mut Command) -> Option<f64> {
     let run = run(command, PATIENCE).ok()?;
-    run.exists().map(|_| run.seconds)
+    run.code.filter(|code| [DONE, MODEL, SEARCHED, SEARCHED_WITH_MODEL].contains(code)).map(|_| run.seconds)
 }
 
 // Formulas.
@@ -249,6 +266,7 @@ fn start(command: &mut Command) -> Option<f64> {
 fn existence(question: &Question, answer: Option<u64>) -> Vec<(Cnf, bool)> {
     match (question, answer) {
         (Question::Choose { job, floor }, _) => vec![(selection(job, *floor), answer.is_some())],
+        (Question::Price { job, .. }, _) => vec![(selection(job, 0), answer.is_some())],
         (Question::Plan { job }, None) => vec![(plan(job, job.horizon), false)],
         (Question::Plan { job }, Some(0)) => vec![(plan(job, 0), true)],
         (Question::Plan { job }, Some(rounds)) => {
@@ -351,21 +369,31 @@ fn at_least(cnf: &mut Cnf, articles: &[i32], floor: u64) {
     }
 }
 
-/// The smallest selection at or above the floor: an article weighs more than all of lower number, so it has a level of
-/// its own.
+/// The smallest selection at or above the floor.
 fn program(job: &Choice, floor: u64) -> String {
+    let mut lines = selections(job, |number| vec![by_number(number)]);
+    lines.extend(at_least_rules(floor));
+    lines.join("\n") + "\n"
+}
+
+/// An article weighs more than all of lower number, so it has a level of its own.
+fn by_number(number: usize) -> String {
+    format!("1@{number}")
+}
+
+/// The selections, as rules, and what each article weighs in them, which is to be least.
+fn selections(job: &Choice, weights: impl Fn(usize) -> Vec<String>) -> Vec<String> {
     let mut lines = vec!["#show x/1.".to_string()];
     for (number, article) in job.articles.iter().enumerate() {
         lines.push(format!("{{x({number})}}."));
-        lines.push(format!("#minimize{{1@{number} : x({number})}}."));
+        lines.extend(weights(number).iter().map(|weight| format!("#minimize{{{weight} : x({number})}}.")));
         lines.extend(members(article.clashes).map(|other| format!(":- x({number}), x({other}).")));
     }
     for wish in members(job.order) {
         let absent: Vec<String> = carriers(job, wish).map(|article| format!("not x({article})")).collect();
         lines.push(format!(":- {}.", absent.join(", ")));
     }
-    lines.extend(at_least_rules(floor));
-    lines.join("\n") + "\n"
+    lines
 }
 
 /// As `at_least`, in rules: `equal(b)` says that the articles from b on are those of the floor.

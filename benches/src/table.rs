@@ -5,15 +5,20 @@ use crate::families::Kind;
 /// What ours is measured against, beside the twin.
 #[derive(Clone, Copy, Debug)]
 pub enum Rival {
-    /// Whether there is an answer.
+    /// Whether there is an answer; of prices, the least total.
     Clasp,
     /// The smallest selection itself, as ours has it. No plans.
     ClaspSmallest,
-    /// Whether there is an answer.
+    /// Whether there is an answer. No prices.
     Cadical,
+    /// The least total. Only prices.
+    Cbc,
 }
 
-pub const RIVALS: [Rival; 3] = [Rival::Clasp, Rival::ClaspSmallest, Rival::Cadical];
+pub fn rivals(kind: Kind) -> [Rival; 3] {
+    let last = if kind == Kind::Price { Rival::Cbc } else { Rival::Cadical };
+    [Rival::Clasp, Rival::ClaspSmallest, last]
+}
 
 impl Rival {
     pub fn name(self) -> &'static str {
@@ -21,6 +26,7 @@ impl Rival {
             Rival::Clasp => "clasp",
             Rival::ClaspSmallest => "clasp, smallest",
             Rival::Cadical => "CaDiCaL",
+            Rival::Cbc => "CBC",
         }
     }
 }
@@ -42,7 +48,7 @@ pub struct Figures {
     pub twin: f64,
     /// Of the twin's search.
     pub nodes: u64,
-    /// In the order of `RIVALS`.
+    /// In the order of `rivals`.
     pub rivals: [Option<Time>; 3],
 }
 
@@ -51,8 +57,8 @@ impl Figures {
         Some(Time { seconds: self.twin, cut_off: false })
     }
 
-    fn rival(&self, rival: Rival) -> Option<Time> {
-        self.rivals[rival as usize].map(|time| Time { seconds: time.seconds.max(LEAST), ..time })
+    fn rival(&self, place: usize) -> Option<Time> {
+        self.rivals[place].map(|time| Time { seconds: time.seconds.max(LEAST), ..time })
     }
 
     fn ratio(&self, other: Time) -> f64 {
@@ -102,9 +108,10 @@ fn line<T: AsRef<str>>(cells: &[T]) -> String {
 }
 
 /// Two lines: the second tells the two columns apart that go with a word of the first.
-pub fn head() -> String {
-    let above = ["", "", "", "", "/ twin", "", "/ clasp", "", "/ clasp,", "smallest", "/ CaDiCaL", "", "nodes", ""];
-    let pairs = ["all", "worst"].repeat(RIVALS.len() + 1);
+pub fn head(rivals: [Rival; 3]) -> String {
+    let last = format!("/ {}", rivals[2].name());
+    let above = ["", "", "", "", "/ twin", "", "/ clasp", "", "/ clasp,", "smallest", &last, "", "nodes", ""];
+    let pairs = ["all", "worst"].repeat(rivals.len() + 1);
     let below = [vec!["", "cases", "ours ms", "twin ms"], pairs, vec!["all", "most"]].concat();
     format!("{}\n{}", line(&above), line(&below))
 }
@@ -113,6 +120,7 @@ pub fn title(kind: Kind) -> &'static str {
     match kind {
         Kind::Choice => "Choice",
         Kind::Fitting => "Fitting",
+        Kind::Price => "Price",
     }
 }
 
@@ -121,8 +129,8 @@ pub fn row(name: &str, all: &[Figures]) -> String {
     let sum = |part: fn(&Figures) -> f64| -> f64 { all.iter().map(part).sum() };
     let mut cells = vec![format!("  {name}"), all.len().to_string(), ms(sum(|f| f.ours)), ms(sum(|f| f.twin))];
     cells.extend(ratios(all, Figures::twin));
-    for rival in RIVALS {
-        cells.extend(ratios(all, |figures| figures.rival(rival)));
+    for place in 0..3 {
+        cells.extend(ratios(all, |figures| figures.rival(place)));
     }
     cells.push(all.iter().map(|figures| figures.nodes).sum::<u64>().to_string());
     cells.push(all.iter().map(|figures| figures.nodes).max().unwrap_or(0).to_string());
@@ -130,14 +138,14 @@ pub fn row(name: &str, all: &[Figures]) -> String {
 }
 
 /// The instances that the largest figures of a family are from.
-pub fn worst_cases(name: &str, all: &[Figures]) -> String {
+pub fn worst_cases(name: &str, rivals: [Rival; 3], all: &[Figures]) -> String {
     let mut text = format!("  {name}\n");
     if let Some(longest) = all.iter().max_by(|a, b| a.ours.total_cmp(&b.ours)) {
         text += &format!("    longest of ours: {} ms, {}\n", ms(longest.ours), longest.label);
     }
     text += &worst_case("the twin", worst(all, Figures::twin));
-    for rival in RIVALS {
-        text += &worst_case(rival.name(), worst(all, |figures| figures.rival(rival)));
+    for (place, rival) in rivals.into_iter().enumerate() {
+        text += &worst_case(rival.name(), worst(all, |figures| figures.rival(place)));
     }
     text
 }

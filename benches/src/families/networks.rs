@@ -7,16 +7,16 @@ use crate::job::{Article, Choice, Question};
 use crate::ours;
 
 /// Articles that carry these wishes, without clashes; all wishes are ordered.
-fn network(wishes: usize, carried: &[u64]) -> Choice {
-    let articles = carried.iter().map(|wishes| Article { wishes: *wishes, clashes: 0 }).collect();
+pub fn network(wishes: usize, carried: &[u64]) -> Choice {
+    let articles = carried.iter().map(|wishes| Article { wishes: *wishes, clashes: 0, price: 0 }).collect();
     Choice { wishes, order: full(wishes), articles }
 }
 
-fn clash(job: &mut Choice, a: usize, b: usize) {
+pub fn clash(job: &mut Choice, a: usize, b: usize) {
     job.articles[a.max(b)].clashes |= 1 << a.min(b);
 }
 
-fn clash_where(job: &mut Choice, mut clashes: impl FnMut(usize, usize) -> bool) {
+pub fn clash_where(job: &mut Choice, mut clashes: impl FnMut(usize, usize) -> bool) {
     for high in 0..job.articles.len() {
         for low in 0..high {
             if clashes(high, low) {
@@ -41,7 +41,7 @@ fn selection(job: &Choice, floor: u64) -> Option<u64> {
 
 // Random networks (001, section 5.1)
 
-const ARTICLES: usize = 64;
+pub const ARTICLES: usize = 64;
 
 /// The clique of each article. The paper's cliques have some 20 of 120 articles; here 1 to 20 of 64. Articles that are
 /// left over after `most` cliques are each alone.
@@ -57,7 +57,7 @@ fn cliques_of(random: &mut Random, articles: usize, most: usize) -> Vec<usize> {
 }
 
 /// As the paper has it: normal(8, 6) wishes an article, and each edge besides with probability m.
-fn random_network(random: &mut Random, articles: usize, wishes: usize, cliques: usize, m: f64) -> Choice {
+pub fn random_network(random: &mut Random, articles: usize, wishes: usize, cliques: usize, m: f64) -> Choice {
     let mut drawn = || {
         let size = random.normal(8.0, 6.0).round().clamp(1.0, wishes as f64);
         random.subset(size as usize, wishes)
@@ -69,7 +69,7 @@ fn random_network(random: &mut Random, articles: usize, wishes: usize, cliques: 
     job
 }
 
-const EDGES: [f64; 6] = [0.0, 0.02, 0.04, 0.06, 0.08, 0.1];
+pub const EDGES: [f64; 6] = [0.0, 0.02, 0.04, 0.06, 0.08, 0.1];
 
 /// Wishes, and the most cliques. The paper's goal of 60 has a cover only if many articles are in no clique: so the
 /// smaller goals go with cliques alone, and the largest with 2 to 4 cliques and single articles.
@@ -97,7 +97,7 @@ pub fn of_size(random: &mut Random, articles: usize, wishes: usize) -> Question 
 
 /// A constraint problem of 8 variables with 8 values: an article is a value, and a wish asks for a value of its
 /// variable.
-fn clique_network(random: &mut Random, edges: f64) -> Choice {
+pub fn clique_network(random: &mut Random, edges: f64) -> Choice {
     let carried: Vec<u64> = (0..ARTICLES).map(|article| 1 << (article / 8)).collect();
     let mut job = network(8, &carried);
     clash_where(&mut job, |a, b| a / 8 == b / 8 || random.chance(edges));
@@ -118,7 +118,7 @@ pub fn cliques(random: &mut Random) -> Instances {
 // Pigeonholes
 
 /// Each pigeon wishes a hole; an article is a pigeon in a hole.
-fn pigeonhole(places: &[(usize, usize)], pigeons: usize, by_pigeon: bool) -> Choice {
+pub fn pigeonhole(places: &[(usize, usize)], pigeons: usize, by_pigeon: bool) -> Choice {
     let carried: Vec<u64> = places.iter().map(|(pigeon, _)| 1 << pigeon).collect();
     let mut job = network(pigeons, &carried);
     clash_where(&mut job, |a, b| places[a].1 == places[b].1 || (by_pigeon && places[a].0 == places[b].0));
@@ -126,7 +126,7 @@ fn pigeonhole(places: &[(usize, usize)], pigeons: usize, by_pigeon: bool) -> Cho
 }
 
 /// The same articles, numbered by pigeon, by hole, and twice at random.
-fn numberings(random: &mut Random, pigeons: usize) -> Vec<(&'static str, Vec<(usize, usize)>)> {
+pub fn numberings(random: &mut Random, pigeons: usize) -> Vec<(&'static str, Vec<(usize, usize)>)> {
     let holes = pigeons - 1;
     let by_pigeon: Vec<_> = (0..pigeons * holes).map(|i| (i / holes, i % holes)).collect();
     let by_hole = (0..pigeons * holes).map(|i| (i % pigeons, i / pigeons)).collect();
@@ -156,7 +156,7 @@ pub fn pigeonhole_by_both(random: &mut Random) -> Instances {
 // Satisfaction (001, section 3)
 
 /// An article is a literal, 2v for a variable and 2v + 1 for its negation; a wish is a clause.
-fn formula(random: &mut Random, variables: usize, clauses: usize) -> Choice {
+pub fn formula(random: &mut Random, variables: usize, clauses: usize) -> Choice {
     let mut carried = vec![0; 2 * variables];
     for clause in 0..clauses {
         for variable in random.shuffled(variables).into_iter().take(3) {
@@ -197,7 +197,7 @@ fn series(label: &str, job: Choice) -> Instances {
 }
 
 /// Draws until there is a selection.
-fn with_selection(mut draw: impl FnMut() -> Choice) -> Choice {
+pub fn with_selection(mut draw: impl FnMut() -> Choice) -> Choice {
     loop {
         let job = draw();
         if selection(&job, 0).is_some() {

@@ -7,6 +7,8 @@ pub struct Choice {
     pub order: u64,
     pub wishes: [u64; 64],
     pub clashes: [u64; 64],
+    /// In cents.
+    pub prices: [i32; 64],
 }
 
 pub struct Fitting {
@@ -104,9 +106,9 @@ pub fn choice(file: &[u8]) -> Result<Choice, Refusal> {
     let n = reader.count(64)?;
     let w = reader.count(64)?;
     let order = reader.set(8, w)?;
-    let (mut wishes, mut clashes) = ([0; 64], [0; 64]);
+    let (mut wishes, mut clashes, mut prices) = ([0; 64], [0; 64], [0; 64]);
     for i in 0..n {
-        let marks = reader.marks(7)?;
+        let marks = reader.marks(15)?;
         if marks & 1 != 0 {
             wishes[i] = reader.field(8, w)?;
         }
@@ -116,9 +118,12 @@ pub fn choice(file: &[u8]) -> Result<Choice, Refusal> {
         if marks & 4 != 0 {
             reader.name()?;
         }
+        if marks & 8 != 0 {
+            prices[i] = reader.field(4, 32)? as i32;
+        }
     }
     reader.end()?;
-    Ok(Choice { n, order, wishes, clashes })
+    Ok(Choice { n, order, wishes, clashes, prices })
 }
 
 pub fn fitting(file: &[u8]) -> Result<Fitting, Refusal> {
