@@ -1,8 +1,9 @@
--- A list with another element: its length, its elements, what it is if the list is made by a function, and if it is altered twice. Assumes nothing.
+-- A list with another element: its length, its elements, what it is if the list is made by a function, and if it is altered twice; and what is made of it.
+-- Assumes nothing.
 use mathlib.Core.Path.{_≡_, refl, sym, ap, _∙_}
 use mathlib.Core.Logic.{_≢_}
 use mathlib.Core.Bool.{Bool, cond}
-use mathlib.Core.List.{List, [], _∷_}
+use mathlib.Core.List.{List, [], _∷_, map}
 use Prim.Native.Nat.{ℕ, zero, suc, _<_}
 use native.Mathlib.Decide.{ℕ-discrete}
 use native.Mathlib.Omega.{arith}
@@ -63,3 +64,10 @@ unfolding alter
 alter-kept i to [] d e = refl
 alter-kept zero to (x ∷ l) d e = ap (λ y. y ∷ l) e
 alter-kept (suc i) to (x ∷ l) d e = ap (λ r. x ∷ r) (alter-kept i to l d e)
+
+-- what does not tell the two elements apart
+pub alter-map : {A B : Type 0} (f : A → B) (i : ℕ) (to : A → A) → ((x : A) → f (to x) ≡ f x) → (l : List A) → map f (alter i to l) ≡ map f l
+unfolding alter
+alter-map f i to e [] = refl
+alter-map f zero to e (x ∷ l) = ap (λ y. y ∷ map f l) (e x)
+alter-map f (suc i) to e (x ∷ l) = ap (λ r. f x ∷ r) (alter-map f i to e l)

@@ -3,7 +3,7 @@ use mathlib.Core.Path.{_≡_, refl, ap, _∙_}
 use mathlib.Core.List.{List, []}
 use Prim.Native.Nat.{ℕ}
 use lib.ListN.{getD, List·getD-map}
-use Rattle.jobfile.specs.Job.{Record, noRecord, Job, column, namesOf, order, wishes, clashes}
+use Rattle.jobfile.specs.Job.{Record, noRecord, Job, column, columnAfter, namesOf, order, wishes, clashes}
 use Rattle.changes.specs.Change.{newOrder, newWishes, newClashes, newName, withField, withName, withRecord, changed}
 use Rattle.changes.proofs.AlterLaws.{alter-twice, alter-kept}
 
@@ -34,6 +34,9 @@ module _ (job : Job (List ℕ)) where
   -- what the columns hold
   pub field-here : (k i : ℕ) → getD (column k (job .records)) i 0 ≡ getD (here i .before) k 0
   field-here k i = List·getD-map (λ r. getD (r .before) k 0) (job .records) i noRecord
+
+  pub amount-here : (k i : ℕ) → getD (columnAfter k (job .records)) i 0 ≡ getD (here i .after) k 0
+  amount-here k i = List·getD-map (λ r. getD (r .after) k 0) (job .records) i noRecord
 
   pub name-here : (i : ℕ) → getD (namesOf (job .records)) i [] ≡ here i .name
   name-here i = List·getD-map (λ r. r .name) (job .records) i noRecord

@@ -57,7 +57,7 @@ module _ (job : Job (List ℕ)) (ok : Body choice job) where
       }
 
   -- another record i that is valid if the old one is
-  record-fits : (i : ℕ) (to : Record (List ℕ) → Record (List ℕ)) → ((r : Record (List ℕ)) → ValidRecord choice (wishCount job) i r → ValidRecord choice (wishCount job) i (to r)) → Valid (withRecord i to job)
+  pub record-fits : (i : ℕ) (to : Record (List ℕ) → Record (List ℕ)) → ((r : Record (List ℕ)) → ValidRecord choice (wishCount job) i r → ValidRecord choice (wishCount job) i (to r)) → Valid (withRecord i to job)
   record-fits i to h =
       record {
         layout = choice;

@@ -9,16 +9,16 @@ use lib.ListN.{length, getD, drop, length-append}
 use lib.Seq.{getD-drop}
 use borrow.Author.Tests.{leb-false}
 use Rattle.jobfile.specs.Layout.{choice}
-use Rattle.jobfile.specs.Job.{Record, noRecord, Job, column, size, wishCount, wishes, clashes}
+use Rattle.jobfile.specs.Job.{Record, noRecord, Job, column, size, wishCount, wishes, clashes, prices}
 use Rattle.jobfile.specs.Write.{bytesOf, fieldBytes, nameBytes, fieldsBytes, partsBytes, joined, writeRecord, writeEach, writeAll, writeBody, writeBy, write}
 use Rattle.jobfile.specs.Valid.{Valid}
 use Rattle.jobfile.proofs.FileLaws.{choice-sound, Body}
-use Rattle.jobfile.proofs.StatedLaws.{choice-known, choice-fields}
+use Rattle.jobfile.proofs.StatedLaws.{choice-known, choice-fields, choice-after}
 use Rattle.jobfile.proofs.Theorems.{body-of}
 use Rattle.changes.specs.Change.{Change, newOrder, newWishes, newClashes, newName, alter, withField, withName, withRecord, changed, isAbsent, newFile}
 use Rattle.changes.specs.Places.{setLength, partBefore, partAfter}
 use Rattle.changes.proofs.AlterLaws.{alter-here, alter-other}
-use Rattle.changes.proofs.ChangeLaws.{here, field-here, name-here}
+use Rattle.changes.proofs.ChangeLaws.{here, field-here, amount-here, name-here}
 use Rattle.changes.proofs.FaultLaws.{valid-here, set-length, counts-length, heads-length}
 
 -- all records, one of which is another
@@ -73,6 +73,10 @@ module _ (job : Job (List ℕ)) (ok : Body choice job) where
     sets-here =
         choice-fields (wishCount job) i (here job i .before) (valid-here choice choice-sound job ok i there .before)
         ∙ ap₂ (λ (a b : ℕ). a ∷ b ∷ []) (sym (field-here job 0 i)) (sym (field-here job 1 i))
+
+    -- and its price
+    pub price-here : here job i .after ≡ getD (prices job) i 0 ∷ []
+    price-here = choice-after (wishCount job) i (here job i .after) (valid-here choice choice-sound job ok i there .after) ∙ ap (λ (v : ℕ). v ∷ []) (sym (amount-here job 0 i))
 
     -- another article i, by the length of its record
     record-changed : (to : Record (List ℕ) → Record (List ℕ)) → Valid (withRecord i to job)

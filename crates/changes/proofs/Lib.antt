@@ -5,3 +5,4 @@ pub mod FitLaws
 pub mod StopLaws
 pub mod FaultLaws
 pub mod LengthLaws
+pub mod ByteLaws

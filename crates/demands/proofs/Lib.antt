@@ -3,9 +3,11 @@ pub mod ReasonLaws
 pub mod DemandLaws
 pub mod SaveLaws
 pub mod PriceLaws
+pub mod MoveLaws
 pub mod Demands
 pub mod Saving
 pub mod Bounds
 pub mod Naming
 pub mod Pricing
+pub mod Moving
 pub mod Promises

@@ -2,3 +2,4 @@
 pub mod Demands
 pub mod Saving
 pub mod Pricing
+pub mod Moving

@@ -50,6 +50,10 @@ fileP =
     ∷ 9 ∷ 3 ∷ 0 ∷ 0 ∷ 0 ∷ 0 ∷ 0 ∷ 0 ∷ 0 ∷ 100 ∷ 0 ∷ 0 ∷ 0
     ∷ []
 
+-- P without the clashes of article 1: its bit map in byte 24 marks wishes and price, and the 8 bytes from 33 on are gone
+abbrev pub filePFree : List ℕ
+filePFree = set (take 33 fileP ++ drop 41 fileP) 24 9
+
 -- articles 0 and 1 of P alone: its first 45 bytes, with 2 articles counted in byte 1
 abbrev pub filePair : List ℕ
 filePair = set (take 45 fileP) 1 2

@@ -11,12 +11,12 @@ use Rattle.sets.specs.Articles.{taking, givingUp}
 use Rattle.reading.specs.Reasons.{answers}
 use Rattle.reading.specs.Items.{spots}
 use Rattle.jobfile.specs.Job.{Job, size}
-use Rattle.jobfile.specs.Read.{read, readJob, fittings, either}
+use Rattle.jobfile.specs.Read.{read, readJob, choices, fittings, either}
 use Rattle.jobfile.specs.Meaning.{spotIn}
 use Rattle.planning.specs.Rounds.{fittingOf, isPlan}
-use Rattle.arguments.specs.Answers.{Answer, value, onJob, Said, refusedBy, answered, said, Left}
+use Rattle.arguments.specs.Answers.{Answer, value, onJob, onValue, Said, refusedBy, answered, said, Left}
 use Rattle.changes.specs.Change.{newOrder, newWishes, newClashes, newName}
-use Rattle.bill.specs.Price.{Bill, priceOf, priceWordsOf}
+use Rattle.bill.specs.Price.{Bill, priceBy, priceIn, priceOf, priceWordsOf}
 use Rattle.calls.specs.Partition.{partitionOf}
 use Rattle.calls.specs.Pass.{Passed, passOf}
 use Rattle.calls.specs.Choose.{Chosen, chooseOf}
@@ -30,7 +30,7 @@ use Rattle.calls.specs.Save.{saveOf}
 use Rattle.capi.specs.Returned.{Returned, returned, returnedThree, nothing, alone, passedWords, both, billWords, test, spotted}
 use Rattle.capi.specs.Version.{interfaceNumber}
 use Rattle.report.specs.Outcome.{outcomeOf, blankWords, textOf}
-use Rattle.examples.specs.Files.{fileA, fileShort, fileLong, fileFree, fileApart, fileP, filePair, fileLeast, fileGreatest, fileB, fileCrossed, fileEmpty, fileMany, fileNamed, fileOf, fileStep, buffet, buffetApart, buffetByte, acuteDot, dotAcute, fileF, fileNear, fileG, fileBack}
+use Rattle.examples.specs.Files.{fileA, fileShort, fileLong, fileFree, fileApart, fileP, filePFree, filePair, fileLeast, fileGreatest, fileB, fileCrossed, fileEmpty, fileMany, fileNamed, fileOf, fileStep, buffet, buffetApart, buffetByte, acuteDot, dotAcute, fileF, fileNear, fileG, fileBack}
 
 -- what the definitions give, and what the rules say
 pub record Row : Type 1 where
@@ -81,6 +81,21 @@ costs x total tax = answered (record { selection = x; total = total; tax = tax }
 
 abbrev minus : ℕ → ℤ
 minus n = negsuc (n - 1)
+
+-- the price of article a in a choice file, and the total and the tax of its cheapest selection; of two files at one rate
+pub record Offer : Type 0 where
+  pub price : ℤ
+  pub total : ℤ
+  pub tax : ℤ
+
+abbrev offer : ℕ → ℕ → List ℕ → Said Offer
+offer a rate file = said (onJob (readJob choices file) (λ job. onValue (priceIn job rate) (λ bill. value (record { price = priceBy job a; total = bill .total; tax = bill .tax }))))
+
+abbrev offers : ℕ → ℕ → List ℕ → List ℕ → List (Said Offer)
+offers a rate first second = offer a rate first ∷ offer a rate second ∷ []
+
+abbrev at : ℤ → ℤ → ℤ → Said Offer
+at price total tax = answered (record { price = price; total = total; tax = tax })
 
 -- the pairs of rounds that are a plan of a fitting: of a job with n steps the pair of a and b is the number a * 2 ^ n + b
 abbrev planPairs : Job (List ℕ) → ℕ
@@ -139,6 +154,23 @@ rowsP =
     ∷ says (priceOf fileA 1900) (costs 4 (pos 0) (pos 0))
     ∷ says (offerOf fileCrossed) (refusedBy 14 1)
     ∷ says (priceOf fileCrossed 1900) (refusedBy 14 0)
+    ∷ []
+
+-- one price moves. P, and P with another price of article 2: dearer, also at a rate with a tax of the total, and cheaper, with the total as far as the price;
+-- of article 0, where the total stays. Files in which no price moves but something else does, and the totals with it: another price, the order, the wishes of
+-- article 0, the clashes of article 1; a count of wishes or a name, where the totals stay
+abbrev rowsMoving : List Row
+rowsMoving =
+    is (offers 2 0 fileP (set fileP 54 140)) (at (pos 100) (minus 50) (pos 0) ∷ at (pos 140) (minus 10) (pos 0) ∷ [])
+    ∷ is (offers 2 10000 fileP (set fileP 54 140)) (at (pos 100) (minus 50) (minus 50) ∷ at (pos 140) (minus 10) (minus 10) ∷ [])
+    ∷ is (offers 2 0 fileP (set fileP 54 60)) (at (pos 100) (minus 50) (pos 0) ∷ at (pos 60) (minus 90) (pos 0) ∷ [])
+    ∷ is (offers 0 0 fileP (set fileP 20 146)) (at (minus 150) (minus 50) (pos 0) ∷ at (minus 110) (minus 50) (pos 0) ∷ [])
+    ∷ is (offers 0 0 fileP (set fileP 54 140)) (at (minus 150) (minus 50) (pos 0) ∷ at (minus 150) (minus 10) (pos 0) ∷ [])
+    ∷ is (offers 2 0 fileP (set fileP 3 1)) (at (pos 100) (minus 50) (pos 0) ∷ at (pos 100) (minus 150) (pos 0) ∷ [])
+    ∷ is (offers 2 0 fileP (set fileP 12 3)) (at (pos 100) (minus 50) (pos 0) ∷ at (pos 100) (minus 150) (pos 0) ∷ [])
+    ∷ is (offers 2 0 fileP filePFree) (at (pos 100) (minus 50) (pos 0) ∷ at (pos 100) (minus 300) (pos 0) ∷ [])
+    ∷ is (offers 2 0 fileP (set fileP 2 3)) (at (pos 100) (minus 50) (pos 0) ∷ at (pos 100) (minus 50) (pos 0) ∷ [])
+    ∷ is (offers 0 0 fileNamed (set fileNamed 14 98)) (at (pos 0) (pos 0) (pos 0) ∷ at (pos 0) (pos 0) (pos 0) ∷ [])
     ∷ []
 
 -- B: its groups; the pass with all articles live, for the goals {0, 1, 2} and {0}; the program's choice, with article 0 set aside
@@ -349,4 +381,4 @@ rowsAnswers =
     ∷ []
 
 abbrev pub rows : List Row
-rows = rowsA ++ (rowsP ++ (rowsB ++ (rowsBound ++ (rowsF ++ (rowsNames ++ (rowsKeyboards ++ (rowsNumbers ++ (rowsSaving ++ (rowsC ++ (rowsText ++ (rowsSets ++ rowsAnswers)))))))))))
+rows = rowsA ++ (rowsP ++ (rowsMoving ++ (rowsB ++ (rowsBound ++ (rowsF ++ (rowsNames ++ (rowsKeyboards ++ (rowsNumbers ++ (rowsSaving ++ (rowsC ++ (rowsText ++ (rowsSets ++ rowsAnswers))))))))))))

@@ -3,3 +3,4 @@ pub mod AmountLaws
 pub mod WeightLaws
 pub mod BoundLaws
 pub mod PriceLaws
+pub mod MoveLaws
