@@ -1,30 +1,39 @@
 -- What was asked of one price that moves, over file bytes, rates and answers of the open call. It rests on what the call promises (Pricing.antt), and not on
 -- how the cheapest selection is found. Assumes nothing.
-use mathlib.Core.Path.{_≡_, sym, ap, ap₂, subst, subst₂, _∙_}
+use mathlib.Core.Path.{_≡_, refl, sym, ap, ap₂, subst, subst₂, _∙_}
 use mathlib.Core.Bool.{Bool}
-use mathlib.Core.List.{List}
+use mathlib.Core.List.{List, [], _∷_}
 use mathlib.Core.Option.{Option}
 use Prim.Native.Nat.{ℕ, _^_, _≤_, _<_}
+use native.Mathlib.Decide.{ℕ-discrete}
+use native.Mathlib.Omega.{arith}
 use lib.IntN.{ℤ}
 use lib.ListN.{length, getD}
+use lib.Seq.{ext-getD}
 use borrow.Author.Tests.{le-ltb}
 use Rattle.reading.specs.Got.{got}
 use Rattle.jobfile.specs.Layout.{choice}
-use Rattle.jobfile.specs.Job.{Job, size, order, prices}
+use Rattle.jobfile.specs.Job.{Record, noRecord, Job, size, wishCount, order, prices}
 use Rattle.jobfile.specs.Read.{readJob, choices}
 use Rattle.jobfile.specs.Write.{write}
-use Rattle.jobfile.specs.Valid.{Bytes}
-use Rattle.jobfile.proofs.StatedLaws.{choice-known, choice-stated}
+use Rattle.jobfile.specs.Valid.{Bytes, Valid}
+use Rattle.jobfile.proofs.FileLaws.{Body}
+use Rattle.jobfile.proofs.StatedLaws.{choice-known, choice-counts, choice-head, choice-stated}
 use Rattle.jobfile.proofs.Theorems.{body-of, exact, read-back}
 use Rattle.network.specs.Network.{Network, listed, networkOf, Selection}
 use Rattle.pricing.specs.Prices.{signed, total, wholeRate, Cheapest}
 use Rattle.pricing.proofs.PriceLaws.{some-cheapest}
 use Rattle.arguments.specs.Answers.{onJob, Said, answered, said}
+use Rattle.changes.specs.Change.{withRecord}
+use Rattle.changes.proofs.AlterLaws.{alter-here, alter-other, alter-map}
+use Rattle.changes.proofs.ChangeLaws.{amount-here, name-here}
+use Rattle.changes.proofs.FitLaws.{record-fits}
+use Rattle.changes.proofs.LengthLaws.{sets-here, price-here}
 use Rattle.changes.proofs.ByteLaws.{choice-bytes}
 use Rattle.bill.specs.Price.{Bill, priceBy, billed, priceIn, priceWordsOf}
 use Rattle.demands.specs.Moving.{OnlyPrice, Possible, Follows, beforeTax, TotalsFollow}
 use Rattle.demands.proofs.PriceLaws.{wordsSaid, answerBy}
-use Rattle.demands.proofs.MoveLaws.{follows-same, cheapest-follows, repriced, repriced-valid, repriced-only, repriced-price, only-same}
+use Rattle.demands.proofs.MoveLaws.{follows-same, cheapest-follows}
 use Rattle.demands.proofs.Pricing.{price-selects, price-least, price-total}
 
 -- a file that is accepted
@@ -71,10 +80,34 @@ module _ (first second : List ℕ) (bytes : Bytes first) (bytes′ : Bytes secon
   one-price-stays same rate rate′ {b} {c} told told′ =
       follows-same (priceBy old a) (beforeTax b) (beforeTax c) (subst (λ (q : ℤ). Follows (priceBy old a) q (beforeTax b) (beforeTax c)) (sym same) (totals-follow rate rate′ told told′))
 
-  -- and the files: the price is all that they can differ in
-  pub one-price-only : getD (prices old) a 0 ≡ getD (prices new) a 0 → first ≡ second
-  one-price-only same =
-      exact choices first bytes e ∙ ap write (only-same old new (choice-stated first bytes e) (choice-stated second bytes′ e′) a only same) ∙ sym (exact choices second bytes′ e′)
+-- ---- what the jobs can differ in
+
+-- a job with another price of article a
+abbrev withPrice : ℕ → Record (List ℕ) → Record (List ℕ)
+withPrice v r = record { before = r .before; name = r .name; after = v ∷ [] }
+
+abbrev repriced : ℕ → ℕ → Job (List ℕ) → Job (List ℕ)
+repriced a v job = withRecord a (withPrice v) job
+
+module _ (job : Job (List ℕ)) (ok : Body choice job) (a v : ℕ) where
+  repriced-valid : v < 2 ^ 32 → Valid (repriced a v job)
+  unfolding choice
+  repriced-valid h = record-fits job ok a (withPrice v) (λ r o. record { before = o .before; short = o .short; letters = o .letters; after = (h, tt) })
+
+  repriced-only : OnlyPrice a job (repriced a v job)
+  repriced-only = record {
+    kind = refl;
+    articles = refl;
+    wishCount = refl;
+    order = refl;
+    wishes = sym (alter-map (λ r. getD (r .before) 0 0) a (withPrice v) (λ r. refl) (job .records));
+    clashes = sym (alter-map (λ r. getD (r .before) 1 0) a (withPrice v) (λ r. refl) (job .records));
+    names = sym (alter-map (λ r. r .name) a (withPrice v) (λ r. refl) (job .records));
+    others = λ i d. amount-here job 0 i ∙ ap (λ (r : Record (List ℕ)). getD (r .after) 0 0) (sym (alter-other a i (withPrice v) (job .records) noRecord d)) ∙ sym (amount-here (repriced a v job) 0 i);
+  }
+
+  repriced-price : a < size job → getD (prices (repriced a v job)) a 0 ≡ v
+  repriced-price there = amount-here (repriced a v job) 0 a ∙ ap (λ (r : Record (List ℕ)). getD (r .after) 0 0) (alter-here a (withPrice v) (job .records) noRecord (omega (arith, ok .size, there)))
 
 -- every price can move, and to every amount that has room in a file: there is a second file
 pub one-price-fits : (first : List ℕ) → Bytes first → {old : Job (List ℕ)} {m : ℕ} → readJob choices first ≡ got old m → (a v : ℕ) → a < size old → v < 2 ^ 32
@@ -85,3 +118,33 @@ one-price-fits first bytes {old} e a v there small =
     let new = repriced a v old in
     let valid = repriced-valid old ok a v small in
     (write new, new, length (write new), choice-bytes new (body-of new valid (choice-known ok)), read-back choices new valid (ap choices (ok .kind)), repriced-only old ok a v, repriced-price old ok a v there)
+
+-- jobs that differ only in a price, and in that neither, are the same
+only-same : (old new : Job (List ℕ)) → Body choice old → Body choice new → (a : ℕ) → OnlyPrice a old new → getD (prices old) a 0 ≡ getD (prices new) a 0 → old ≡ new
+only-same old new ok ok′ a only e = λ t. record { kind = only .kind t; counts = counts t; heads = heads t; records = records t }
+  where
+    counts : old .counts ≡ new .counts
+    counts = choice-counts (old .counts) (ok .counts) ∙ ap₂ (λ (n w : ℕ). n ∷ w ∷ []) (only .articles) (only .wishCount) ∙ sym (choice-counts (new .counts) (ok′ .counts))
+
+    heads : old .heads ≡ new .heads
+    heads = choice-head (wishCount old) (old .heads) (ok .heads) ∙ ap (λ (o : ℕ). o ∷ []) (only .order) ∙ sym (choice-head (wishCount new) (new .heads) (ok′ .heads))
+
+    price : (i : ℕ) → Dec (i ≡ a) → getD (prices old) i 0 ≡ getD (prices new) i 0
+    price i (yes q) = ap (λ (k : ℕ). getD (prices old) k 0) q ∙ e ∙ ap (λ (k : ℕ). getD (prices new) k 0) (sym q)
+    price i (no d) = only .others i d
+
+    at : (i : ℕ) → i < size old → i < size new → getD (old .records) i noRecord ≡ getD (new .records) i noRecord
+    at i l l′ =
+        let before = sets-here old ok i l ∙ ap₂ (λ (w c : List ℕ). getD w i 0 ∷ getD c i 0 ∷ []) (only .wishes) (only .clashes) ∙ sym (sets-here new ok′ i l′) in
+        let name = sym (name-here old i) ∙ ap (λ (s : List (List ℕ)). getD s i []) (only .names) ∙ name-here new i in
+        let after = price-here old ok i l ∙ ap (λ (v : ℕ). v ∷ []) (price i (ℕ-discrete i a)) ∙ sym (price-here new ok′ i l′) in
+        λ t. record { before = before t; name = name t; after = after t }
+
+    records : old .records ≡ new .records
+    records = ext-getD noRecord (old .records) (new .records) (ok .size ∙ only .articles ∙ sym (ok′ .size)) (λ i l. at i (omega (arith, ok .size, l)) (omega (arith, ok .size, l, only .articles)))
+
+-- so if the price is the same, the files are: there is nothing else that they can differ in
+pub one-price-only : (first second : List ℕ) → Bytes first → Bytes second → {old new : Job (List ℕ)} {m n : ℕ} → readJob choices first ≡ got old m → readJob choices second ≡ got new n
+    → (a : ℕ) → OnlyPrice a old new → getD (prices old) a 0 ≡ getD (prices new) a 0 → first ≡ second
+one-price-only first second bytes bytes′ {old} {new} e e′ a only same =
+    exact choices first bytes e ∙ ap write (only-same old new (choice-stated first bytes e) (choice-stated second bytes′ e′) a only same) ∙ sym (exact choices second bytes′ e′)

@@ -156,9 +156,9 @@ rowsP =
     ∷ says (priceOf fileCrossed 1900) (refusedBy 14 0)
     ∷ []
 
--- one price moves. P, and P with another price of article 2: dearer, also at a rate with a tax of the total, and cheaper, with the total as far as the price;
--- of article 0, where the total stays. Files in which no price moves but something else does, and the totals with it: another price, the order, the wishes of
--- article 0, the clashes of article 1; a count of wishes or a name, where the totals stay
+-- one price moves. P, and P with another price of article 2: dearer, also at a rate at which the tax is the total, and cheaper, each time with the total as
+-- far as the price; of article 0, where the total stays. Files in which that price stays and something else does not, and the totals with it: another
+-- price, the order, the wishes of article 0, the clashes of article 1; and the count of wishes, with which they stay
 abbrev rowsMoving : List Row
 rowsMoving =
     is (offers 2 0 fileP (set fileP 54 140)) (at (pos 100) (minus 50) (pos 0) ∷ at (pos 140) (minus 10) (pos 0) ∷ [])
@@ -170,7 +170,6 @@ rowsMoving =
     ∷ is (offers 2 0 fileP (set fileP 12 3)) (at (pos 100) (minus 50) (pos 0) ∷ at (pos 100) (minus 150) (pos 0) ∷ [])
     ∷ is (offers 2 0 fileP filePFree) (at (pos 100) (minus 50) (pos 0) ∷ at (pos 100) (minus 300) (pos 0) ∷ [])
     ∷ is (offers 2 0 fileP (set fileP 2 3)) (at (pos 100) (minus 50) (pos 0) ∷ at (pos 100) (minus 50) (pos 0) ∷ [])
-    ∷ is (offers 0 0 fileNamed (set fileNamed 14 98)) (at (pos 0) (pos 0) (pos 0) ∷ at (pos 0) (pos 0) (pos 0) ∷ [])
     ∷ []
 
 -- B: its groups; the pass with all articles live, for the goals {0, 1, 2} and {0}; the program's choice, with article 0 set aside
