@@ -1,6 +1,7 @@
 -- What was asked of one price that moves, over file bytes, rates and answers of the open call. It rests on what the call promises (Pricing.antt), and not on
 -- how the cheapest selection is found. Assumes nothing.
 use mathlib.Core.Path.{_≡_, refl, sym, ap, ap₂, subst, subst₂, _∙_}
+use mathlib.Core.Logic.{_≢_}
 use mathlib.Core.Bool.{Bool}
 use mathlib.Core.List.{List, [], _∷_}
 use mathlib.Core.Option.{Option}
@@ -13,7 +14,7 @@ use lib.Seq.{ext-getD}
 use borrow.Author.Tests.{le-ltb}
 use Rattle.reading.specs.Got.{got}
 use Rattle.jobfile.specs.Layout.{choice}
-use Rattle.jobfile.specs.Job.{Record, noRecord, Job, size, wishCount, order, prices}
+use Rattle.jobfile.specs.Job.{Record, noRecord, Job, size, wishCount, order, wishes, clashes, prices}
 use Rattle.jobfile.specs.Read.{readJob, choices}
 use Rattle.jobfile.specs.Write.{write}
 use Rattle.jobfile.specs.Valid.{Bytes, Valid}
@@ -54,24 +55,35 @@ module _ (file : List ℕ) (rate : ℕ) {job : Job (List ℕ)} {end : ℕ} (e : 
 -- two files that are accepted, whose jobs differ only in the price of article a
 module _ (first second : List ℕ) (bytes : Bytes first) (bytes′ : Bytes second) {old new : Job (List ℕ)} {m n : ℕ} (e : readJob choices first ≡ got old m) (e′ : readJob choices second ≡ got new n)
     (a : ℕ) (only : OnlyPrice a old new) where
+  -- so both have the same selections, and all other prices are the same
   same-network : networkOf old ≡ networkOf new
-  same-network = λ i. listed (only .articles i) (only .wishes i) (only .clashes i)
+  same-network =
+      let wishes-same : wishes old ≡ wishes new = only .wishes in
+      let clashes-same : clashes old ≡ clashes new = only .clashes in
+      λ i. listed (only .articles i) (wishes-same i) (clashes-same i)
+
+  same-order : order old ≡ order new
+  same-order = only .order
+
+  same-prices : (i : ℕ) → i ≢ a → priceBy old i ≡ priceBy new i
+  same-prices i d = let words : getD (prices old) i 0 ≡ getD (prices new) i 0 = only .others i d in ap (signed 32) words
 
   totals-follow : (rate rate′ : ℕ) {b c : Bill ℕ} → said (priceWordsOf first rate) ≡ answered b → said (priceWordsOf second rate′) ≡ answered c
       → Follows (priceBy old a) (priceBy new a) (beforeTax b) (beforeTax c)
   totals-follow rate rate′ {b} {c} told told′ =
       let cheap : Cheapest (networkOf old) (priceBy new) (order old) (c .selection) =
-      subst₂ (λ (N : Network) (o : ℕ). Cheapest N (priceBy new) o (c .selection)) (sym same-network) (sym (only .order)) (bill-cheapest second rate′ e′ told′) in
-      subst₂ (λ (t u : ℤ). Follows (priceBy old a) (priceBy new a) t u) (sym (price-total first rate e told bytes))
-      (ap (λ (k : ℕ). total k (priceBy new) (c .selection)) (only .articles) ∙ sym (price-total second rate′ e′ told′ bytes′))
-      (cheapest-follows (networkOf old) (order old) a (priceBy old) (priceBy new) (λ i d. ap (signed 32) (only .others i d)) (b .selection) (c .selection) (bill-cheapest first rate e told) cheap)
+      subst₂ (λ (N : Network) (o : ℕ). Cheapest N (priceBy new) o (c .selection)) (sym same-network) (sym same-order) (bill-cheapest second rate′ e′ told′) in
+      let total-of-b : beforeTax b ≡ total (size old) (priceBy old) (b .selection) = price-total first rate e told bytes in
+      let total-of-c : beforeTax c ≡ total (size old) (priceBy new) (c .selection) = price-total second rate′ e′ told′ bytes′ ∙ ap (λ (k : ℕ). total k (priceBy new) (c .selection)) (sym (only .articles)) in
+      subst₂ (λ (t u : ℤ). Follows (priceBy old a) (priceBy new a) t u) (sym total-of-b) (sym total-of-c)
+      (cheapest-follows (networkOf old) (order old) a (priceBy old) (priceBy new) same-prices (b .selection) (c .selection) (bill-cheapest first rate e told) cheap)
 
   -- with at least one selection, and at any rates that are accepted, both calls answer; and the totals before tax differ by no more than that price did, and
   -- never against its sign
   pub one-price-moves : Possible old → (rate rate′ : ℕ) → rate ≤ 10000 → rate′ ≤ 10000 → TotalsFollow a old new (said (priceWordsOf first rate)) (said (priceWordsOf second rate′))
   one-price-moves (x, s) rate rate′ passes passes′ =
       let (b, told) = some-bill first rate e (x, s) passes in
-      let (c, told′) = some-bill second rate′ e′ (x, subst₂ (λ (N : Network) (o : ℕ). Selection N o x) same-network (only .order) s) passes′ in
+      let (c, told′) = some-bill second rate′ e′ (x, subst₂ (λ (N : Network) (o : ℕ). Selection N o x) same-network same-order s) passes′ in
       subst₂ (λ (s t : Said (Bill ℕ)). TotalsFollow a old new s t) (sym told) (sym told′) (totals-follow rate rate′ told told′)
 
   -- if the price is the same, so are the totals
