@@ -1,7 +1,7 @@
 -- The laws that what one price does to the cheapest total rests on. Assumes nothing.
 use mathlib.Core.Path.{_≡_, refl, sym, ap}
 use mathlib.Core.Logic.{_⊎_, _≢_, inl, inr, ⊎-elim}
-use Prim.Native.Nat.{ℕ, zero, suc, _+_, _-_, _≤_, _<_}
+use Prim.Native.Nat.{ℕ, _+_, _-_, _≤_, _<_}
 use native.Mathlib.Decide.{decLt}
 use native.Mathlib.Omega.{arith}
 use lib.IntN.{ℤ, pos, negsuc, negℤ, natAbs, _-ℤ_}
@@ -9,7 +9,7 @@ use lib.Signed.{≤ℤ-refl}
 use Rattle.network.specs.Network.{Network}
 use Rattle.pricing.specs.Prices.{total, Cheapest}
 use Rattle.pricing.specs.Weights.{up, down}
-use Rattle.pricing.proofs.AmountLaws.{le-up, up-le, same-up, add-up, sums-up}
+use Rattle.pricing.proofs.AmountLaws.{le-up, up-le, same-up, negated-up, add-up, sums-up}
 use Rattle.pricing.proofs.MoveLaws.{total-moves}
 use Rattle.demands.specs.Moving.{difference, Follows}
 
@@ -22,11 +22,6 @@ AtMost a b = up a + down b ≤ up b + down a
 -- t is at most u, and u is no further above it than q is above p
 abbrev Along : ℤ → ℤ → ℤ → ℤ → Type 0
 Along p q t u = AtMost t u × (up u + down t + (up p + down q) ≤ up t + down u + (up q + down p))
-
-negated-up : (z : ℤ) → (up (negℤ z) ≡ down z) × (down (negℤ z) ≡ up z)
-negated-up (pos zero) = (refl, refl)
-negated-up (pos (suc n)) = (refl, refl)
-negated-up (negsuc n) = (refl, refl)
 
 without-sign : (z : ℤ) → ((natAbs z ≡ up z) × (down z ≡ 0)) ⊎ ((natAbs z ≡ down z) × (up z ≡ 0))
 without-sign (pos n) = inl (refl, refl)

@@ -4,17 +4,17 @@ use mathlib.Core.Logic.{⊎-elim}
 use mathlib.Core.Bool.{Bool, true, false}
 use mathlib.Core.List.{List, [], _∷_}
 use mathlib.Core.Option.{Option, none, some}
-use Prim.Native.Nat.{ℕ, zero, suc, _*_, _^_, _≤_, _<_}
+use Prim.Native.Nat.{ℕ, suc, _*_, _^_, _≤_, _<_}
 use native.Mathlib.Nat.{mul-le-mul-left}
 use native.Mathlib.Decide.{decLt}
 use native.Mathlib.Omega.{arith}
 use lib.Dec.{ltb}
-use lib.IntN.{ℤ, pos, negsuc, negℤ, subℕ}
+use lib.IntN.{ℤ, pos, negsuc, subℕ}
 use lib.ListN.{getD}
 use Rattle.reading.specs.declared.Reason.the-variants.{HighRate}
 use Rattle.pricing.specs.Prices.{signed, wordOf, total, wholeRate, nearest, taxOn}
 use Rattle.pricing.specs.Weights.{up, down, over}
-use Rattle.pricing.proofs.AmountLaws.{sub-cases, parts-low, parts-high, words-spell}
+use Rattle.pricing.proofs.AmountLaws.{negated-up, sub-cases, parts-low, parts-high, words-spell}
 use Rattle.pricing.proofs.WeightLaws.{over-most}
 use Rattle.pricing.proofs.PriceLaws.{total-sum}
 use Rattle.arguments.specs.Answers.{Answer, refusal, value, onValue, unless, passed, afterTests, Said, refusedBy, answered, said, accepted}
@@ -68,14 +68,10 @@ module _ (bill : ℕ → Bill ℤ) where
 nearest-right : (a : ℕ) → Rounded a (nearest a wholeRate)
 nearest-right a = record { above = omega arith; below = omega arith }
 
-negated : (n : ℕ) → (up (negℤ (pos n)) ≡ 0) × (down (negℤ (pos n)) ≡ n)
-negated zero = (refl, refl)
-negated (suc n) = (refl, refl)
-
 pub tax-right : (z : ℤ) (rate : ℕ) → TaxRight z rate (taxOn z rate)
 tax-right (pos t) rate = record { due = nearest-right (t * rate); back = record { above = omega arith; below = omega arith } }
 tax-right (negsuc t) rate =
-    let (u, d) = negated (nearest (suc t * rate) wholeRate) in
+    let (u, d) = negated-up (pos (nearest (suc t * rate) wholeRate)) in
     let r = nearest-right (suc t * rate) in
     record { due = record { above = omega (arith, u); below = omega (arith, u) }; back = record { above = omega (arith, d, r .above); below = omega (arith, d, r .below) } }
 

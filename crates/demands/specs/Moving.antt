@@ -35,7 +35,7 @@ Possible job = (x : ℕ) × Selection (networkOf job) (order job) x
 abbrev pub difference : ℤ → ℤ → ℕ
 difference a b = natAbs (a -ℤ b)
 
--- a price goes from p to q, and a total from t to u: they differ by no more than the price did, and never against its sign
+-- a price goes from p to q, and a total from t to u: it goes no further than the price did, and never against its sign
 pub record Follows (p q t u : ℤ) : Type 0 where
   pub most : difference t u ≤ difference p q
   pub rises : p ≤ℤ q → t ≤ℤ u
@@ -47,7 +47,7 @@ pub record Follows (p q t u : ℤ) : Type 0 where
 abbrev pub beforeTax : Bill ℕ → ℤ
 beforeTax bill = signed 64 (bill .total)
 
--- both are answered, and the totals follow the price of article a
+-- both calls answer, and the total goes with the price of article a
 abbrev pub TotalsFollow : ℕ → Job (List ℕ) → Job (List ℕ) → Said (Bill ℕ) → Said (Bill ℕ) → Type 0
 TotalsFollow a old new (answered b) (answered c) = Follows (priceBy old a) (priceBy new a) (beforeTax b) (beforeTax c)
 TotalsFollow a old new (answered b) (refusedBy number place) = ⊥
