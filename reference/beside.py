@@ -8,9 +8,9 @@ small files of a sort, drawn ones, wide ones, at the edge of the words, and dama
 changed, lengthened, over their limits, with forbidden bits; and some whose plan is long looked for. What is saved is saved once
 more, and back. What falls short is tried on every selection. Names are searched for in other writings, and among names that are
 nearly the same. What is cheapest is asked of files of few articles and of many, at rates that there are and such that there are
-not. The same files come in every run. A difference is printed, and ends it with status 1; otherwise it prints how much was
-compared, and what of it mattered. --fault makes the second program err on purpose (FAULTS in rules.py): then a difference has
-to be found.
+not, and again with one price moved, which the total has to follow. The same files come in every run. A difference is printed, and
+ends it with status 1; otherwise it prints how much was compared, and what of it mattered. --fault makes the second program err on
+purpose (FAULTS in rules.py): then a difference has to be found.
 """
 
 import argparse
@@ -203,6 +203,24 @@ def as_words(selection, total, tax):
     return selection, total % 2**64, tax % 2**64
 
 
+def from_words(selection, total, tax):
+    """The same, from words back to numbers."""
+    return selection, *(word - 2**64 if word >> 63 else word for word in (total, tax))
+
+
+def other_prices(price, draw):
+    """Near by and far away on either side, and across 0; none, the lowest and the highest; and the same once more."""
+    moves = [by * side for by, side in product((1, 40, draw.randint(41, 500_000)), (-1, 1))]
+    prices = {*(price + move for move in moves), -price, 0, LOWEST, HIGHEST, price}
+    return [each for each in sorted(prices) if LOWEST <= each <= HIGHEST]
+
+
+def drawn_rates(draw):
+    """Two rates that there are, often the same."""
+    one, other = (draw.choice([*RATES, draw.randint(0, 10_000)]) for _ in range(2))
+    return one, draw.choice([one, other])
+
+
 # What is asked
 
 
@@ -282,9 +300,10 @@ class Beside:
             self.excluded("short goals", file, every)
 
     def price(self, file, rate):
+        """Status and words of ours."""
         words = lambda found: as_words(number(found[0]), *found[1:])
         found, (status, told) = self.answer(words, rules.price, file, rate)
-        self.same("price", (file, rate), (status, told if found else (*told, 0)))
+        ours = self.same("price", (file, rate), (status, told if found else (*told, 0)))
         self.tally[f"price refused {status}" if status else "priced"] += 1
         if rate in (0, 10_000, 10_001, FULL):
             self.tally[f"rates of {rate}"] += 1
@@ -292,6 +311,7 @@ class Beside:
             self.count_priced(rules.read(file, (CHOICE,)), *found, rate)
         elif status == 14:
             self.not_priced(rules.read(file, (CHOICE,)))
+        return ours[:2]
 
     def count_priced(self, job, selection, total, tax, rate):
         """Counts what prices came to."""
@@ -520,6 +540,41 @@ class Beside:
         for rate in (5000, self.draw.choice(RATES), self.draw.randint(0, 10_000), self.draw.choice(TOO_HIGH)):
             self.price(file, rate)
         self.compare(file, written(priced(self.draw, rules.read(file, (CHOICE,)))))
+
+    def moving(self, file, article, price, rates):
+        """A file, and the same with another price of an article, at a rate each: both have a selection or neither has, and the
+        total of ours follows the price."""
+        prices = prices_in(file)
+        was, other = prices[article], repriced(file, [*prices[:article], price, *prices[article + 1 :]])
+        answers = [self.price(file, rates[0]), self.price(other, rates[1])]
+        statuses, found = [status for status, _ in answers], [from_words(*words) for _, words in answers]
+        self.count_move(was, price, rates, len(prices))
+        if statuses == [14, 14]:
+            self.tally["moves without a selection"] += 1
+            return
+        if statuses != [0, 0] or not rules.follows(price - was, *found):
+            asked = f"{file.hex()} {rates[0]} and {other.hex()} {rates[1]}"
+            moved = f"article {article} goes from {was} to {price}, ours from {found[0]} to {found[1]}"
+            raise Differ(f"price {asked}: {moved}, with the statuses {statuses}")
+        self.count_followed(price - was, *found)
+
+    def count_move(self, was, price, rates, articles):
+        """Counts which way a price was moved, and where."""
+        self.tally["prices moved"] += 1
+        self.tally["prices that rose" if price > was else "prices that fell" if price < was else "prices that stayed"] += 1
+        self.tally["moves across zero"] += min(was, price) < 0 < max(was, price)
+        self.tally["moves from no price"] += was == 0 != price
+        self.tally["moves to no price"] += price == 0 != was
+        self.tally["moves at two rates"] += rates[0] != rates[1]
+        self.tally["moves among 64 articles"] += articles == 64
+
+    def count_followed(self, move, first, second):
+        """Counts how far a total followed, and whether what is cheapest changed."""
+        moved = abs(second[1] - first[1])
+        self.tally["moves that changed the cheapest"] += first[0] != second[0]
+        self.tally["totals that moved as far as a price"] += 0 < moved == abs(move)
+        self.tally["totals that moved less far than a price"] += 0 < moved < abs(move)
+        self.tally["totals that stayed though a price moved"] += moved == 0 != move
 
     def reaching(self, file, draw):
         """Passes and lists of goals, all of them in order, of a file whose order is not empty."""
@@ -763,6 +818,22 @@ def priced_files(beside):
             beside.reading(file)
 
 
+def moved(beside):
+    """Drawn files, ones like a catalogue, some of them with 64 articles, and ones of 64 articles with few selections: each with
+    other prices of two of its articles."""
+    draw = random.Random(20261122)
+    few = [priced(draw, drawn_choice(draw)) for _ in range(400)]
+    some_more = [grouped_choice(draw, draw.randint(11, 18), draw.randint(3, 5)) for _ in range(40)]
+    wide = [priced(draw, wide_choice(draw)) for _ in range(10)]
+    many = [grouped_choice(draw, 64, draw.randint(5, 7)) for _ in range(8)]
+    for job in few + some_more + wide + many:
+        n = len(job.articles)
+        for article in draw.sample(range(n), min(n, 2)):
+            prices = other_prices(job.articles[article].price, draw)
+            for price in draw.sample(prices, 2) if n == 64 else prices:
+                beside.moving(written(job), article, price, drawn_rates(draw))
+
+
 def saved(beside):
     """Small files, drawn ones, and ones of 64 articles, with drawn changes; and the longest, with changes at the edge. Of the drawn
     ones every other has prices."""
@@ -786,6 +857,7 @@ def saved(beside):
 def run(beside):
     draw, prices = random.Random(20261115), random.Random(20261120)
     stated(beside)
+    moved(beside)
     priced_files(beside)
     for file in [A, N, B, NOTHING, *small_choices(), *(written(drawn_choice(draw)) for _ in range(700))]:
         beside.choice(file, draw)

@@ -529,7 +529,7 @@ def beside():
 
 def faults():
     """Each mistake that the second program makes on purpose is found."""
-    planted = range(1, 26)
+    planted = range(1, 27)
     for fault in planted:
         printed = run([sys.executable, "-B", "reference/beside.py", built_library()[1], "--fault", str(fault)], status=1)
         demand(re.search(r"^the second program .*; after \d+ comparisons: ", printed), f"fault {fault}: {printed}")

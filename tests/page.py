@@ -373,6 +373,20 @@ def falling_short(folder):
         equal((status, source.count(b"Counting")), (0, 0), f"with {order} there is a kitchen")
 
 
+def change_of_one_price(folder):
+    """What a change of one price can do is said once, after what else there is, if there are prices and a kitchen."""
+    jobs = ROOT / "jobs"
+    for path, told in (
+        (jobs / "prices.txt", 1), (folder / "prices.txt", 1), (folder / "prices in vain.txt", 0), (jobs / "kitchen.txt", 0),
+        (jobs / "impossible.txt", 0), (jobs / "fitting.txt", 0),
+    ):  # fmt: skip
+        root = form(path.name, run("page", path)[1].decode())
+        said = [part for part in root.iter("p") if part.text.startswith("If the price of one article changes")]
+        last = [part[-1] for part in root.iter("section") if part.findtext("h2") == "What else"]
+        equal(len(said), told, f"{path}: a change of one price")
+        check(not told or said == last, f"{path}: where it is said")
+
+
 def names_of_any_bytes():
     source = random.Random(1)
     for number in range(40):
@@ -455,6 +469,7 @@ def main():
         folder = pathlib.Path(name)
         pages(folder)
         falling_short(folder)
+        change_of_one_price(folder)
         names_of_any_bytes()
         horizons()
         usage(folder)

@@ -899,15 +899,41 @@ def spoken(names):
     return ", ".join(names[:-1]) + " and " + names[-1]
 
 
+# What is told last of a kitchen if there are prices.
+ONE_PRICE = (
+    "If the price of one article changes and all else stays as it is, the total of the cheapest kitchen for this order, before "
+    "tax, changes by no more than the price does, and never the other way, even if another kitchen is the cheapest then: if an "
+    "article becomes 0.40 dearer, the total rises by 0.40 at most and does not fall."
+)
+SHOP = "choice\nwishes: a, b\norder: a\narticle X\nwishes: a\n"
+# A text, options, and whether it is told what a change of one price can do.
+PRICED = [
+    (sample("prices").read_text(), [], True),
+    (sample("prices").read_text(), ["--order", ""], True),
+    (sample("prices").read_text(), ["--bound", "--order", "oven"], True),
+    (SHOP, [], False),
+    (SHOP + "price: 0\n", [], False),
+    (SHOP + "price: 0.00\narticle Y\nwishes: b\nprice: -0\n", ["--bound"], False),
+    (SHOP + "price: 0\narticle Y\nwishes: b\nprice: -0.01\n", [], True),
+    (SHOP + "article Y\nwishes: b\nclashes: X\nprice: 21474836.47\n", ["--bound"], True),
+    (SHOP + "price: 12.5\n", ["--order", "b"], False),
+    (SHOP + "price: 12.5\narticle Y\nwishes: b\nclashes: X\nprice: 7\n", ["--bound", "--order", "a, b"], False),
+    *((path.read_text(), [], False) for path in SAMPLES if path.stem != "prices"),
+    (SHORT.decode(), [], False),
+    (CHOICE_EXAMPLE, [], False),
+]
+
+
 @section(
     "advise", "every", "none", "some", "parts of 1", "parts of 2", "parts of 3", "parts of more", "not enough", "uncarried",
     "horizons that would do", "horizons that none would", "ungiven", "goals that are given in vain", "command lines",
-    "falls short", "does not fall short"
+    "falls short", "does not fall short", "told of one price", "prices without a kitchen", "not told of one price"
 )  # fmt: skip
 def advise(tally, folder):
     draw = random.Random(7)
     jobs = [drawn_choice(draw, 7, 6) for _ in range(150)] + [tight_choice(draw, 7, 6) for _ in range(130)]
     jobs += [linked_choice(draw, draw.choice([2, 3, 3, 4, 4])) for _ in range(40)]
+    jobs += with_drawn_prices(60)
     for number, job in enumerate(jobs):
         text, sets = text_of(job), clash_free(job)
         label = f"advice {number}, {kitchen.written(job).hex()}"
@@ -916,7 +942,7 @@ def advise(tally, folder):
         kitchens = covering(sets, job.sets[0])
         check(isinstance(answer, kitchen.NoSelection) == (not kitchens), f"{label}: whether there is a kitchen")
         if kitchens:
-            expected = every_none_some(tally, job, kitchens, found, label)
+            expected = every_none_some(tally, job, kitchens, found, label) + ([ONE_PRICE] if priced(job) else [])
         else:
             short = second_bound(job) < len(job.sets[0])
             equal(answer, kitchen.NoSelection(0 if short else 1), f"{label}: whether the order falls short")
@@ -929,6 +955,30 @@ def advise(tally, folder):
         answer = asking.asked(job)
         expected = [] if answer is not kitchen.NoPlan else which_horizon(tally, text, advising.advice(job, answer), label)
         as_lines(tally, folder, text, answer, expected, number, label)
+    told_of_one_price(tally, folder)
+
+
+def priced(job):
+    return any(record.price for record in job.records)
+
+
+def with_drawn_prices(count):
+    """Drawn jobs with prices, by a source of their own; some of them have no kitchen."""
+    draw = random.Random(23)
+    return [with_prices(draw, draw.choice([drawn_choice, drawn_choice, tight_choice])(draw, 7, 6)) for _ in range(count)]
+
+
+def told_of_one_price(tally, folder):
+    """What a change of one price can do is told last, if there are a price and a kitchen; all else as if there were no prices."""
+    path = folder / "priced.txt"
+    for text, options, told in PRICED:
+        path.write_text(text)
+        status, output, _ = called("advise", path, *options)
+        path.write_text(re.sub(r"\n *price: .*", "", text))
+        plain, without, _ = called("advise", path, *options)
+        equal((status, output), (plain, without + f"{ONE_PRICE}\n" * told), f"advise {options} of\n{text}")
+        check("cheapest" not in without, f"advise {options}, without prices: {without}")
+        tally["told of one price" if told else "not told of one price"] += 1
 
 
 def every_none_some(tally, job, kitchens, found, label):
@@ -1028,6 +1078,8 @@ def as_lines(tally, folder, text, answer, expected, number, label):
     split = [rows(line)[0] if line.startswith("  ") else line for line in lines[len(answered) :]]
     none = isinstance(answer, kitchen.NoSelection) or answer is kitchen.NoPlan
     equal((status, split), (3 if none else 0, expected), f"{label}: in words")
+    tally["told of one price"] += ONE_PRICE in expected
+    tally["prices without a kitchen"] += priced(text.job) and none
 
 
 # ---- further kitchens
@@ -1271,7 +1323,8 @@ def evened(found, told):
 
 @section(
     "price", "priced", "below zero", "not the smallest", "ties", "halves", "no kitchens", "command lines", "lines of json", "lies",
-    "honest", "libraries that are not used"
+    "honest", "libraries that are not used", "dearer", "cheaper", "all of a change", "a part of a change",
+    "nothing of a change", "another cheapest"
 )  # fmt: skip
 def prices(tally, folder):
     draw, path = random.Random(17), folder / "price.txt"
@@ -1290,9 +1343,41 @@ def prices(tally, folder):
         found = ran([TOOL, *call]) if number % 24 == 0 else called(*call)
         equal(evened(found, told), with_cheapest(text_of(job), told, percent, expected), f"{label}: in words")
         tally["command lines"] += 1
+    changes_of_one_price(tally)
     asked_as_json(tally, folder)
     lies_about_prices(tally)
     price_libraries(tally, folder)
+
+
+def repriced(job, number, price):
+    """The job with another price of one article."""
+    return job._replace(records=[r._replace(price=price) if u == number else r for u, r in enumerate(job.records)])
+
+
+def other_price(draw, old):
+    """None, one that is drawn, or one that is near."""
+    near = max(kitchen.LOWEST_PRICE, min(kitchen.HIGHEST_PRICE, old + draw.choice([-40, -1, 1, 40])))
+    return draw.choice([0, draws.drawn_price(draw), draws.drawn_price(draw), near, near])
+
+
+def changes_of_one_price(tally):
+    """The cheapest total, by the second program, changes by no more than the price does, and never the other way."""
+    draw = random.Random(31)
+    for job in with_drawn_prices(600) + [ours_of(draws.grouped_choice(draw, 20, 5)) for _ in range(100)]:
+        before = second_priced(job, 0)
+        if before is None or not job.records:
+            continue
+        number = draw.randrange(len(job.records))
+        old = job.records[number].price
+        new = other_price(draw, old)
+        after = second_priced(repriced(job, number, new), 0)
+        change, total = new - old, after.total - before.total
+        label = f"{new} for {old} of article {number}, {kitchen.written(job).hex()}"
+        check(min(change, 0) <= total <= max(change, 0), f"{label}: the total changes by {total}")
+        tally["another cheapest"] += after.articles != before.articles
+        if change:
+            tally["dearer" if change > 0 else "cheaper"] += 1
+            tally["all of a change" if total == change else "a part of a change" if total else "nothing of a change"] += 1
 
 
 def what_it_came_to(tally, job, rate, expected):
@@ -2029,6 +2114,7 @@ FAULTS = {
     24: ("totals and taxes are words without a sign", kitchen, "signed", lambda word: word, "module"),
     25: ("prices of a text are lost", texts.Draft, "price", lambda draft, entry: 0, "price"),
     26: ("the tax is told in place of the total", telling, "cheapest_told", tax_for_total, "price"),
+    27: ("what a change of one price can do is told without prices, too", telling, "has_prices", lambda job: True, "advise"),
 }  # fmt: skip
 
 

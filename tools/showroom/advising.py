@@ -3,8 +3,9 @@
 What is concluded of a choice are theorems (crates/advice/proofs/Advice.antt): with the wishes of some articles emptied
 there is a selection exactly if there is one without these articles; an article is in some selection exactly if the order
 without its wishes has one without the article itself and those that it clashes with; it is in every one exactly if there is
-none without it; and what has no selection for a part of the order has none for the order. Of a fitting nothing is
-concluded: what is said of another horizon is the answer for a job that has it.
+none without it; and what has no selection for a part of the order has none for the order. What a change of one price can
+do to the cheapest total is a theorem, too (`one-price-moves`, crates/demands/proofs/Moving.antt), and needs no question. Of
+a fitting nothing is concluded: what is said of another horizon is the answer for a job that has it.
 """
 
 import subprocess
@@ -13,7 +14,7 @@ from collections import namedtuple
 from kitchen import CHOICE, NoPlan, NoSelection, Selection
 from showroom.asking import Failed, asked
 from showroom.rules import both_ways
-from showroom.telling import bound_told, listed, member_names, told
+from showroom.telling import bound_told, change_told, listed, member_names, told
 from showroom.words import counted, names_of, series
 
 PATIENCE = 60  # seconds for the question whether a longer horizon would do: no plan may be long looked for
@@ -163,7 +164,7 @@ def advised(text, answer, bound=None):
     found = advice(text.job, answer)
     lines = ([] if bound is None else [bound_told(text, bound)]) + told(text, answer)
     if isinstance(found, Articles):
-        return lines + listed(standings(text, found))
+        return lines + listed(standings(text, found)) + change_told(text)
     if isinstance(found, Conflict):
         return lines + conflict_told(text, found)
     return lines + (horizon_told(text, found) if found else [])

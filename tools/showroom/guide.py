@@ -58,7 +58,8 @@ What a kitchen costs:
   `price: 129.90` in an article is its price; one of a trade-in is below zero, as `price: -40`. With `--rate 19` the cheapest
   kitchen is told, its total, and a tax of 19 percent on it, to the nearest cent; half a cent goes away from zero. An article
   without a price counts as 0. What lowers the total is taken, even if no wish asks for it. The proved library answers this:
-  tools/library builds it, once, and a folder from `make dist` has it. Without --rate all is told as if there were no prices.
+  tools/library builds it, once, and a folder from `make dist` has it. Without --rate `ask` tells all as if there were no
+  prices. If there are prices and a kitchen, `advise` also tells what a change of one price can do to the cheapest total.
 
 How a text is written:
 - The first line is `choice` or `fitting`. A choice goes on with `wishes:` and `order:`, then has its articles; a

@@ -9,7 +9,7 @@ from kitchen import CHOICE, NoPlan, Selection
 from showroom.advising import conflict_told, horizon_told, rest_told, standings
 from showroom.asking import there_is_none
 from showroom.rules import both_ways
-from showroom.telling import article_rows, member_names, round_rows, told
+from showroom.telling import article_rows, change_told, has_prices, member_names, round_rows, told
 from showroom.words import called, counted, money, names_of, printed, series
 
 # Signs of a cell or a name, with the word that is read out.
@@ -182,7 +182,8 @@ def chosen_table(text, articles):
 
 
 def articles_section(text, advice):
-    return section("What else", texts_table("The articles, by the kitchens for this order", standings(text, advice)))
+    table = texts_table("The articles, by the kitchens for this order", standings(text, advice))
+    return section("What else", table, paragraphs(change_told(text)))
 
 
 def conflict_section(text, advice):
@@ -210,7 +211,7 @@ def wish_grid(text, chosen, advice):
     others = sorted(set(range(job.members)) - job.sets[0])
     wishes = [(wish, "ordered") for wish in order] + [(wish, "other") for wish in others]
     depth = 2 if wishes else None
-    priced = any(record.price for record in job.records)
+    priced = has_prices(job)
     words = [element("th", "In kitchens", scope="col", rowspan=depth)] if advice else []
     words += [element("th", "Price", scope="col", rowspan=depth)] if priced else []
     above = [corner("Article", depth), *words, *group("Wishes of the order", len(order)), *group("Other wishes", len(others))]

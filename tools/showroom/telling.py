@@ -88,6 +88,23 @@ def further_told(text, kitchens):
     return lines if kitchens else ["There is no further kitchen."]
 
 
+def has_prices(job):
+    """Whether some article has a price; one of 0 is none."""
+    return any(record.price for record in job.records)
+
+
+def change_told(text):
+    """What a change of one price can do to the cheapest total, if there are prices: a theorem of each order with a kitchen."""
+    if not has_prices(text.job):
+        return []
+    some = money(40)
+    return [
+        "If the price of one article changes and all else stays as it is, the total of the cheapest kitchen for this order, "
+        "before tax, changes by no more than the price does, and never the other way, even if another kitchen is the cheapest "
+        f"then: if an article becomes {some} dearer, the total rises by {some} at most and does not fall."
+    ]
+
+
 def priced_rows(text, articles):
     """Articles, with their prices below each other, a dash for none, and the ordered wishes that each fulfils."""
     prices = [text.job.records[number].price for number in sorted(articles)]
