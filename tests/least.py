@@ -12,7 +12,7 @@ THERE = {
     "crates with must-fail edits": 30,
     "rows of the proved table": 166,
     "theorems of the demands": 51,
-    "theorems of the requests": 42,
+    "theorems of the requests": 43,
     "functions of the header": 15,
     "scripts of the second program": 14,
     "sample jobs": 6,

@@ -2,16 +2,13 @@
 -- how the cheapest selection is found. Assumes nothing.
 use mathlib.Core.Path.{_≡_, refl, sym, ap, ap₂, subst, subst₂, _∙_}
 use mathlib.Core.Logic.{_≢_}
-use mathlib.Core.Bool.{Bool}
 use mathlib.Core.List.{List, [], _∷_}
-use mathlib.Core.Option.{Option}
 use Prim.Native.Nat.{ℕ, _^_, _≤_, _<_}
 use native.Mathlib.Decide.{ℕ-discrete}
 use native.Mathlib.Omega.{arith}
 use lib.IntN.{ℤ}
 use lib.ListN.{length, getD}
 use lib.Seq.{ext-getD}
-use borrow.Author.Tests.{le-ltb}
 use Rattle.reading.specs.Got.{got}
 use Rattle.jobfile.specs.Layout.{choice}
 use Rattle.jobfile.specs.Job.{Record, noRecord, Job, size, wishCount, order, wishes, clashes, prices}
@@ -22,35 +19,23 @@ use Rattle.jobfile.proofs.FileLaws.{Body}
 use Rattle.jobfile.proofs.StatedLaws.{choice-known, choice-counts, choice-head, choice-stated}
 use Rattle.jobfile.proofs.Theorems.{body-of, exact, read-back}
 use Rattle.network.specs.Network.{Network, listed, networkOf, Selection}
-use Rattle.pricing.specs.Prices.{signed, total, wholeRate, Cheapest}
-use Rattle.pricing.proofs.PriceLaws.{some-cheapest}
-use Rattle.arguments.specs.Answers.{onJob, Said, answered, said}
+use Rattle.pricing.specs.Prices.{signed, total, Cheapest}
+use Rattle.arguments.specs.Answers.{Said, answered, said}
 use Rattle.changes.specs.Change.{withRecord}
 use Rattle.changes.proofs.AlterLaws.{alter-here, alter-other, alter-map}
 use Rattle.changes.proofs.ChangeLaws.{amount-here, name-here}
 use Rattle.changes.proofs.FitLaws.{record-fits}
 use Rattle.changes.proofs.LengthLaws.{sets-here, price-here}
 use Rattle.changes.proofs.ByteLaws.{choice-bytes}
-use Rattle.bill.specs.Price.{Bill, priceBy, billed, priceIn, priceWordsOf}
+use Rattle.bill.specs.Price.{Bill, priceBy, priceWordsOf}
 use Rattle.demands.specs.Moving.{OnlyPrice, Possible, Follows, beforeTax, TotalsFollow}
-use Rattle.demands.proofs.PriceLaws.{wordsSaid, answerBy}
 use Rattle.demands.proofs.MoveLaws.{follows-same, cheapest-follows}
-use Rattle.demands.proofs.Pricing.{price-selects, price-least, price-total}
+use Rattle.demands.proofs.Pricing.{price-some, price-selects, price-least, price-total}
 
--- a file that is accepted
-module _ (file : List ℕ) (rate : ℕ) {job : Job (List ℕ)} {end : ℕ} (e : readJob choices file ≡ got job end) where
-  -- if there is a selection and the rate passes, a bill is answered
-  some-bill : Possible job → rate ≤ 10000 → (b : Bill ℕ) × (said (priceWordsOf file rate) ≡ answered b)
-  some-bill (x, s) passes =
-      let (z, found, c) = some-cheapest (networkOf job) (priceBy job) (order job) x s in (
-        _,
-        ap (λ g. wordsSaid (onJob g (λ j. priceIn j rate))) e
-            ∙ ap₂ (λ (high : Bool) (o : Option ℕ). wordsSaid (answerBy (billed (size job) (priceBy job) rate) high o)) (le-ltb wholeRate rate passes) found,
-      )
-
-  -- a bill is that of a cheapest selection
-  bill-cheapest : {b : Bill ℕ} → said (priceWordsOf file rate) ≡ answered b → Cheapest (networkOf job) (priceBy job) (order job) (b .selection)
-  bill-cheapest told = record { selection = price-selects file rate e told; least = price-least file rate e told }
+-- a bill is that of a cheapest selection
+bill-cheapest : (file : List ℕ) (rate : ℕ) {job : Job (List ℕ)} {end : ℕ} (e : readJob choices file ≡ got job end) {b : Bill ℕ} → said (priceWordsOf file rate) ≡ answered b
+    → Cheapest (networkOf job) (priceBy job) (order job) (b .selection)
+bill-cheapest file rate e told = record { selection = price-selects file rate e told; least = price-least file rate e told }
 
 -- two files that are accepted, whose jobs differ only in the price of article a
 module _ (first second : List ℕ) (bytes : Bytes first) (bytes′ : Bytes second) {old new : Job (List ℕ)} {m n : ℕ} (e : readJob choices first ≡ got old m) (e′ : readJob choices second ≡ got new n)
@@ -82,8 +67,8 @@ module _ (first second : List ℕ) (bytes : Bytes first) (bytes′ : Bytes secon
   -- never against its sign
   pub one-price-moves : Possible old → (rate rate′ : ℕ) → rate ≤ 10000 → rate′ ≤ 10000 → TotalsFollow a old new (said (priceWordsOf first rate)) (said (priceWordsOf second rate′))
   one-price-moves (x, s) rate rate′ passes passes′ =
-      let (b, told) = some-bill first rate e (x, s) passes in
-      let (c, told′) = some-bill second rate′ e′ (x, subst₂ (λ (N : Network) (o : ℕ). Selection N o x) same-network same-order s) passes′ in
+      let (b, told) = price-some first rate e passes x s in
+      let (c, told′) = price-some second rate′ e′ passes′ x (subst₂ (λ (N : Network) (o : ℕ). Selection N o x) same-network same-order s) in
       subst₂ (λ (s t : Said (Bill ℕ)). TotalsFollow a old new s t) (sym told) (sym told′) (totals-follow rate rate′ told told′)
 
   -- if the price is the same, so are the totals

@@ -1,6 +1,6 @@
 -- What was asked of prices, over file bytes, rates and answers of the open call. What turns it down is among the demands (`demand-1-price`). Assumes
 -- nothing.
-use mathlib.Core.Path.{_≡_, refl, sym, ap, subst, _∙_}
+use mathlib.Core.Path.{_≡_, refl, sym, ap, ap₂, subst, _∙_}
 use mathlib.Core.Bool.{Bool, true, false}
 use mathlib.Core.List.{List}
 use mathlib.Core.Option.{Option, none, some, Option·none-ne-some}
@@ -55,6 +55,12 @@ module _ (file : List ℕ) (rate : ℕ) {job : Job (List ℕ)} {end : ℕ} (e : 
       nothing : (o : Option ℕ) → Smallest (Cheapest (networkOf job) (priceBy job) (order job)) 0 o → ((x : ℕ) → Selection (networkOf job) (order job) x → ⊥) → o ≡ none
       nothing none w h = refl
       nothing (some x) w h = absurd (h x (w .holds .selection))
+
+  -- if there is one, and the rate passes, a bill is answered
+  pub price-some : rate ≤ 10000 → (x : ℕ) → Selection (networkOf job) (order job) x → (b : Bill ℕ) × (said (priceWordsOf file rate) ≡ answered b)
+  price-some passes x s =
+      let (z, found, c) = some-cheapest (networkOf job) (priceBy job) (order job) x s in
+      (_, on-job ∙ ap₂ (λ (high : Bool) (o : Option ℕ). wordsSaid (answerBy (billed (size job) (priceBy job) rate) high o)) (le-ltb wholeRate rate passes) found)
 
   pub price-none-place : (place : ℕ) → said (priceWordsOf file rate) ≡ refusedBy 14 place → place ≡ 0
   price-none-place place r = none-made (billed (size job) (priceBy job) rate) (ltb wholeRate rate) (cheapest (networkOf job) (priceBy job) (order job)) place (sym on-job ∙ r) .1

@@ -3,5 +3,5 @@ use Rattle.demands.proofs.Demands.{demand-1-numbers, demand-1-one-numbe
 use Rattle.demands.proofs.Saving.{save-reads, save-only, save-length, save-refusals, save-one-writing, save-two-ways, save-same, save-back}
 use Rattle.demands.proofs.Bounds.{pass-bounds, pass-most, pass-excludes, pass-leaves-none, choose-place, choose-excludes, choose-none-short, choose-later, choose-by-passes, program-place}
 use Rattle.demands.proofs.Naming.{names-tested, names-reflexive, names-symmetric, names-transitive, names-by-bytes, table-fixed, order-one, decomposition-one, find-either, find-named, find-empty, find-long}
-use Rattle.demands.proofs.Pricing.{price-none, price-none-place, price-selects, price-least, price-smallest, price-total, price-tax, prices-aside}
+use Rattle.demands.proofs.Pricing.{price-none, price-some, price-none-place, price-selects, price-least, price-smallest, price-total, price-tax, prices-aside}
 use Rattle.demands.proofs.Moving.{one-price-moves, one-price-stays, one-price-only, one-price-fits}
