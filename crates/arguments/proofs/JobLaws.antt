@@ -7,7 +7,7 @@ use Rattle.reading.specs.Got.{got}
 use Rattle.reading.specs.Items.{spots}
 use Rattle.jobfile.specs.declared.Verdict.the-variants as Verdict
 use Rattle.jobfile.specs.declared.ReadChoice.{ReadChoice}
-use Rattle.jobfile.specs.Job.{Job, order, prices}
+use Rattle.jobfile.specs.Job.{Job, wishCount, order, prices}
 use Rattle.jobfile.specs.Meaning.{choiceRead, Few, ChoiceBounds}
 use Rattle.jobfile.specs.Read.{read, readJob, choices}
 use Rattle.jobfile.proofs.NamingLaws.{mapGot, jobBy, read-same}
@@ -16,12 +16,13 @@ use Rattle.arguments.specs.Meaning.{networkIn}
 use Rattle.arguments.proofs.FileLaws.{as-taken, choice-verdict}
 use Rattle.arguments.proofs.TestLaws.{network-same, price-same}
 
--- what was read of a choice file states a job: its network, its order and its prices
+-- what was read of a choice file states a job: its network, its count of wishes, its order and its prices
 pub record ChoiceRead (f : List ℕ) (r : ReadChoice) : Type 0 where
   pub job : Job (List ℕ)
   pub end : ℕ
   pub is : readJob choices f ≡ got job end
   pub network : networkIn r ≡ networkOf job
+  pub counted : r .«wish_count» ≡ wishCount job
   pub wanted : r .order ≡ order job
   pub priced : (i : ℕ) → getD (r .prices) i 0 ≡ getD (prices job) i 0
 
@@ -34,6 +35,7 @@ choice-read f r e bounds accepted =
       end = t .end;
       is = read-same f choices ∙ ap (mapGot (jobBy f)) (t .is);
       network = ap networkIn q ∙ network-same f (t .job) (t .end) (subst (Few 64) (t .is) (bounds .3));
+      counted = ap (λ x. x .«wish_count») q;
       wanted = ap (λ x. x .order) q;
       priced = λ i. ap (λ (x : ReadChoice). getD (x .prices) i 0) q ∙ price-same f (t .job) (t .end) (subst (Few 64) (t .is) (bounds .3)) i;
     }

@@ -56,7 +56,7 @@ goal-passed wanted = go (eqb wanted 0) refl
         (first-miss (λ i. badGoal wanted (getD (wanted ∷ []) i 0)) 0 0 (ap₂ (λ (a b : Bool). a || not b) e (part-yes wanted wanted (part-refl wanted))))
 
 -- over a network and an order: the choice by our own partition and goal
-abbrev offerOver : Network → ℕ → Answer Chosen
+abbrev pub offerOver : Network → ℕ → Answer Chosen
 offerOver N wanted =
     afterTests (groupsTest N (groupsTo N (N .articles)))
     (afterTests (goalsTest wanted (soleGoal wanted))
@@ -69,6 +69,10 @@ own-passed N wanted =
     let answer = chosenFor N (groupOf N) (soleGoal wanted) wanted 0 in
     sym (ap₂ (λ (a b : Answer (Unit {0})). afterTests a (afterTests b answer)) (groups-passed N) (goal-passed wanted))
 
+-- so what was searched for is what the rules answer
+pub offer-is : (N : Network) (wanted : ℕ) → searched (offered N wanted) ≡ offerOver N wanted
+offer-is N wanted = searched-is N (groupOf N) (soleGoal wanted) wanted 0 ∙ own-passed N wanted
+
 -- ---- a file
 
 module _ (f : List ℕ) where
@@ -78,8 +82,6 @@ module _ (f : List ℕ) where
   -- the choice was made for this order
   pub offer-made : (r : ReadChoice) → ChoiceRead f r → {c : Choice} {wanted : ℕ} → c ≡ offered (networkIn r) wanted → wanted ≡ r .order → said (searched c) ≡ said (offerOf f)
   offer-made r R p same-order =
-      let N = networkIn r in
       ap said (
-      ap searched (p ∙ ap (offered (networkIn r)) same-order) ∙ searched-is N (groupOf N) (soleGoal (r .order)) (r .order) 0 ∙ own-passed N (r .order)
-      ∙ ap₂ offerOver (R .network) (R .wanted) ∙ on-job (λ job. offerIn job) (R .is)
+      ap searched (p ∙ ap (offered (networkIn r)) same-order) ∙ offer-is (networkIn r) (r .order) ∙ ap₂ offerOver (R .network) (R .wanted) ∙ on-job (λ job. offerIn job) (R .is)
       )

@@ -18,6 +18,7 @@ ghost use Rattle.calls.specs.Find.{findOf};
 ghost use Rattle.calls.specs.Compare.{compareOf};
 ghost use Rattle.calls.specs.Save.{saveOf, saveTold};
 ghost use Rattle.changes.specs.Change.{newOrder, newWishes, newClashes, newName};
+ghost use Rattle.fair.specs.Fair.{fairOf};
 ghost use Rattle.capi.specs.Returned.{returned, returnedThree, nothing, alone, passedWords, both, billWords, test, spotted};
 ghost use Rattle.capi.specs.Version.{interfaceNumber};
 use bill::PriceAnswer;
@@ -30,11 +31,12 @@ use calls::PassAnswer;
 use calls::PlanAnswer;
 use calls::SaveAnswer;
 use calls::VerticesAnswer;
+use fair::FairAnswer;
 use reading::Refusal;
 use sets::ArticleSet;
 
 // The number of this interface, which goes up whenever it changes: KITCHEN_VERSION of the header.
-const VERSION: u32 = 6;
+const VERSION: u32 = 7;
 
 // An answer: two words, and the status 0.
 fn answered(out: &mut [u64; 2], a: u64, b: u64) -> u32
@@ -131,6 +133,24 @@ pub extern "C" fn kitchen_price(file: &[u8], rate: u64, out: &mut [u64; 3]) -> u
             tax,
         } => priced(out, selection.bits, total, tax),
         PriceAnswer::Refused(refusal) => unpriced(out, refusal),
+    }
+}
+
+// A fair's orders: three words an order.
+#[no_mangle]
+pub extern "C" fn kitchen_fair(
+    file: &[u8],
+    orders: &[u64],
+    words: &mut [u64],
+    out: &mut [u64; 2],
+) -> u32
+    ensures { λ r. ⌜ record { status = r; words = now (out .exit) } ≡ returned nothing (fairOf (now (file .entry)) (now (orders .entry)) (now (words .entry)) .answer) ⌝ }
+    ensures { λ r. ⌜ now (words .exit) ≡ fairOf (now (file .entry)) (now (orders .entry)) (now (words .entry)) .buffer ⌝ }
+{
+    let answer = fair::fair(file, orders, words);
+    match answer {
+        FairAnswer::Done => answered(out, 0, 0),
+        FairAnswer::Refused(refusal) => refused(out, refusal),
     }
 }
 

@@ -5,4 +5,5 @@ pub mod FindLaws
 pub mod FloorLaws
 pub mod AmongLaws
 pub mod OfferLaws
+pub mod BothLaws
 pub mod Theorems

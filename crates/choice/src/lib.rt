@@ -12,6 +12,7 @@ ghost use Rattle.choice.specs.Meaning.{foundBy, isSome};
 
 pub mod find;
 mod least;
+pub mod tabled;
 
 use filter::passes;
 use jobfile::ReadChoice;
@@ -19,7 +20,6 @@ use network::partition;
 use network::tables;
 use sets::ArticleSet;
 use sets::table;
-use sets::word;
 
 // A set of articles, or that there is none.
 pub enum Found {
@@ -78,8 +78,7 @@ pub fn coverable(
     }
 }
 
-// The choice for an order. If a goal falls short, there is no selection, and no search is made. The
-// search is among the articles that the filter leaves: every selection lies within them.
+// The choice for an order. If a goal falls short, there is no selection, and no search is made.
 pub fn choose(
     wishes: &[u64; 64],
     clashes: &[u64; 64],
@@ -96,15 +95,18 @@ pub fn choose(
     if reached.short < goals.len() {
         return Choice::Nothing(reached.short);
     }
-    let live = reached.live;
-    let aside = word::without(word::full(n), live);
     let both = tables::both_ways(clashes);
     let carriers = table::transposed(wishes);
-    let found = smallest(wishes, &both, &carriers, live, order, floor);
-    match found {
-        Found::Set(selection) => Choice::Chosen { selection, aside },
-        Found::Nothing => Choice::Nothing(goals.len()),
-    }
+    tabled::among(
+        wishes,
+        &both,
+        &carriers,
+        n,
+        reached.live,
+        order,
+        floor,
+        goals.len(),
+    )
 }
 
 // The choice for an order by our own partition, with the whole order as the only goal.

@@ -4,12 +4,12 @@ use mathlib.Core.Path.{_≡_, refl, sym, ap, _∙_, subst}
 use mathlib.Core.Logic.{_⊎_}
 use mathlib.Core.Bool.{Bool, true}
 use mathlib.Core.List.{List, [], _∷_, _++_}
-use Prim.Native.Nat.{ℕ, _≤_, _<_}
+use Prim.Native.Nat.{ℕ, _*_, _≤_, _<_}
 use native.Mathlib.Omega.{arith}
 use lib.ListN.{length, getD, take, drop}
 use Rattle.sets.specs.Sets.{full}
 use Rattle.reading.specs.declared.Reason.{Reason}
-use Rattle.reading.specs.declared.Reason.the-variants.{WrongKind, EndsEarly, OverLimit, ForbiddenBit, EmptyField, AbsentMember, LongName, TrailingBytes, OutOfRange, ShortBuffer, FalsePartition, LiveOutsideFile, BadGoal, NoSelection, NoPlan, NameNotFound, HighRate}
+use Rattle.reading.specs.declared.Reason.the-variants.{WrongKind, EndsEarly, OverLimit, ForbiddenBit, EmptyField, AbsentMember, LongName, TrailingBytes, OutOfRange, ShortBuffer, FalsePartition, LiveOutsideFile, BadGoal, NoSelection, NoPlan, NameNotFound, HighRate, OrderOutsideFile}
 use Rattle.reading.specs.Reasons.{numberOf}
 use Rattle.reading.specs.Got.{Got, got, refused}
 use Rattle.reading.proofs.Reasons.{number-tells}
@@ -48,6 +48,8 @@ use Rattle.calls.specs.Name.{nameOf}
 use Rattle.calls.specs.Find.{findIn, findOf}
 use Rattle.calls.specs.Compare.{compareOf}
 use Rattle.calls.specs.Save.{saveOf}
+use Rattle.fair.specs.Fair.{orderIn, entries, fairIn, fairOf}
+use Rattle.fair.proofs.EntryLaws.{entries-length}
 use Rattle.demands.specs.Demands.{Exactly, Refuses, Says, Off, Wrong, absentLayer, shortBuffer, falsePartition, absentArticle, wrongGoal, wrongGoals, highRate, Has, Alike, ChoiceKept, PlanKept}
 use Rattle.demands.specs.Saving.{Given, wrongSaving}
 use Rattle.demands.proofs.ReasonLaws.{file-reason}
@@ -58,8 +60,8 @@ use Rattle.demands.proofs.SaveLaws.{change-tests, room-on, saved-value}
 -- ---- demand 1
 
 -- the numbers of the rules, and no two reasons have one
-pub demand-1-numbers : (numberOf WrongKind ≡ 1) × (numberOf EndsEarly ≡ 2) × (numberOf OverLimit ≡ 3) × (numberOf ForbiddenBit ≡ 4) × (numberOf EmptyField ≡ 5) × (numberOf AbsentMember ≡ 6) × (numberOf LongName ≡ 7) × (numberOf TrailingBytes ≡ 8) × (numberOf OutOfRange ≡ 9) × (numberOf ShortBuffer ≡ 10) × (numberOf FalsePartition ≡ 11) × (numberOf LiveOutsideFile ≡ 12) × (numberOf BadGoal ≡ 13) × (numberOf NoSelection ≡ 14) × (numberOf NoPlan ≡ 15) × (numberOf NameNotFound ≡ 16) × (numberOf HighRate ≡ 17)
-demand-1-numbers = (refl, refl, refl, refl, refl, refl, refl, refl, refl, refl, refl, refl, refl, refl, refl, refl, refl)
+pub demand-1-numbers : (numberOf WrongKind ≡ 1) × (numberOf EndsEarly ≡ 2) × (numberOf OverLimit ≡ 3) × (numberOf ForbiddenBit ≡ 4) × (numberOf EmptyField ≡ 5) × (numberOf AbsentMember ≡ 6) × (numberOf LongName ≡ 7) × (numberOf TrailingBytes ≡ 8) × (numberOf OutOfRange ≡ 9) × (numberOf ShortBuffer ≡ 10) × (numberOf FalsePartition ≡ 11) × (numberOf LiveOutsideFile ≡ 12) × (numberOf BadGoal ≡ 13) × (numberOf NoSelection ≡ 14) × (numberOf NoPlan ≡ 15) × (numberOf NameNotFound ≡ 16) × (numberOf HighRate ≡ 17) × (numberOf OrderOutsideFile ≡ 18)
+demand-1-numbers = (refl, refl, refl, refl, refl, refl, refl, refl, refl, refl, refl, refl, refl, refl, refl, refl, refl, refl)
 
 pub demand-1-one-number : (r s : Reason) → numberOf r ≡ numberOf s → r ≡ s
 demand-1-one-number r s e = number-tells r s e
@@ -99,6 +101,11 @@ pub demand-1-choose : (file groups goals : List ℕ) (floor : ℕ) (number place
 demand-1-choose file groups goals floor =
     file-tests choices file (λ job. chooseIn job groups goals floor) (λ job.
     groups-checks (networkOf job) groups .tests (goals-checks (order job) goals .tests (tests-end _ (chosen-taken (selection (networkOf job) (order job) floor) _ _))))
+
+pub demand-1-fair : (file orders buffer : List ℕ) (number place : ℕ) → Exactly (Refuses (fairOf file orders buffer .answer) number place) (Wrong choices file (λ job. shortBuffer buffer (3 * length orders) ∷ []) number place)
+demand-1-fair file orders buffer number place =
+    exactly-then (left-exactly (λ words. words) (λ words. tt) buffer (onJob (readJob choices file) (λ job. fairIn job orders buffer)) number place)
+    (file-tests choices file (λ job. fairIn job orders buffer) (λ job. room-checks buffer (3 * length orders) .tests (tests-end (value (entries (orderIn job) orders)) refl)) number place)
 
 pub demand-1-fact-layer : (file buffer : List ℕ) (k : ℕ) (number place : ℕ)
     → Exactly (Refuses (factLayerOf file k buffer .answer) number place) (Wrong fittings file (λ job. absentLayer k 0 (horizon job) ∷ shortBuffer buffer 32 ∷ []) number place)
@@ -142,6 +149,9 @@ demand-1-compare first second number place =
 -- a refusal leaves the buffer as it was, 14 to 16 included
 pub demand-1-partition-kept : (file buffer : List ℕ) {number place : ℕ} → partitionOf file buffer .answer ≡ refusedBy number place → partitionOf file buffer .buffer ≡ buffer
 demand-1-partition-kept file buffer e = left-kept (λ groups. groups) (λ groups. tt) buffer (onJob (readJob choices file) (λ job. partitionIn job buffer)) e
+
+pub demand-1-fair-kept : (file orders buffer : List ℕ) {number place : ℕ} → fairOf file orders buffer .answer ≡ refusedBy number place → fairOf file orders buffer .buffer ≡ buffer
+demand-1-fair-kept file orders buffer e = left-kept (λ words. words) (λ words. tt) buffer (onJob (readJob choices file) (λ job. fairIn job orders buffer)) e
 
 pub demand-1-fact-layer-kept : (file buffer : List ℕ) (k : ℕ) {number place : ℕ} → factLayerOf file k buffer .answer ≡ refusedBy number place → factLayerOf file k buffer .buffer ≡ buffer
 demand-1-fact-layer-kept file buffer k e = left-kept (λ layer. layer .words) (λ layer. layer .members) buffer (onJob (readJob fittings file) (λ job. factLayerIn job k buffer)) e
@@ -190,6 +200,9 @@ demand-1-choose-else file groups goals floor = accepted-exactly (said (chooseOf 
 
 pub demand-1-price-else : (file : List ℕ) (rate : ℕ) → Exactly (accepted (said (priceWordsOf file rate)) ≡ true) ((number place : ℕ) → Wrong choices file (λ job. highRate rate ∷ []) number place → ⊥)
 demand-1-price-else file rate = accepted-exactly (said (priceWordsOf file rate)) (demand-1-price file rate)
+
+pub demand-1-fair-else : (file orders buffer : List ℕ) → Exactly (accepted (fairOf file orders buffer .answer) ≡ true) ((number place : ℕ) → Wrong choices file (λ job. shortBuffer buffer (3 * length orders) ∷ []) number place → ⊥)
+demand-1-fair-else file orders buffer = accepted-exactly (fairOf file orders buffer .answer) (demand-1-fair file orders buffer)
 
 pub demand-1-fact-layer-else : (file buffer : List ℕ) (k : ℕ)
     → Exactly (accepted (factLayerOf file k buffer .answer) ≡ true) ((number place : ℕ) → Wrong fittings file (λ job. absentLayer k 0 (horizon job) ∷ shortBuffer buffer 32 ∷ []) number place → ⊥)
@@ -273,6 +286,15 @@ pub demand-2-choose : (file groups goals : List ℕ) (floor : ℕ) → accepted 
 demand-2-choose file groups goals floor t =
     let (job, end, e, i, s) = file-taken choices file (λ job. chooseIn job groups goals floor) t in
     (job, end, e, ap said (i ∙ choice-is groups goals floor job s))
+
+-- a fair's orders: an entry for each, in its order, with the later words as they were
+pub demand-2-fair : (file orders buffer : List ℕ) → accepted (fairOf file orders buffer .answer) ≡ true
+    → (job : Job (List ℕ)) × (end : ℕ) × (readJob choices file ≡ got job end) × (fairOf file orders buffer .answer ≡ answered tt) × (fairOf file orders buffer .buffer ≡ entries (orderIn job) orders ++ drop (3 * length orders) buffer)
+demand-2-fair file orders buffer t =
+    let a = onJob (readJob choices file) (λ job. fairIn job orders buffer) in
+    let (job, end, e, i, s) = file-taken choices file (λ job. fairIn job orders buffer) (sym (left-taken (λ words. words) (λ words. tt) buffer a) ∙ t) in
+    let (p, q) = left-value (λ words. words) (λ words. tt) buffer (i ∙ one-pass (room-checks buffer (3 * length orders)) _ s) (entries-length (orderIn job) orders) in
+    (job, end, e, p, q)
 
 -- the layers
 pub demand-2-fact-layer : (file buffer : List ℕ) (k : ℕ) → accepted (factLayerOf file k buffer .answer) ≡ true

@@ -110,7 +110,7 @@ module _ (buffer new : List ℕ) where
       → Checks (unlessAt (placed b place) reason room) (record { At = λ p. (p ≡ place) × P; number = numberOf reason } ∷ shortBuffer buffer (length new) ∷ [])
   new-checks b reason place {P} stops h = checks-at (placed b place) (λ p. (p ≡ place) × P) reason stops (placed-exactly b place h) (room-checks buffer (length new))
 
-stray-exactly : (bound v : ℕ) → Exactly (leb (2 ^ bound) v ≡ true) ((m : ℕ) × (bound ≤ m) × (m ∈ v))
+pub stray-exactly : (bound v : ℕ) → Exactly (leb (2 ^ bound) v ≡ true) ((m : ℕ) × (bound ≤ m) × (m ∈ v))
 unfolding outside
 stray-exactly bound v = outside-exactly bound v
 

@@ -3,3 +3,4 @@ pub mod Demands
 pub mod Saving
 pub mod Pricing
 pub mod Moving
+pub mod Fairs

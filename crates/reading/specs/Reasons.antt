@@ -3,7 +3,7 @@ use mathlib.Core.Bool.{Bool, _&&_}
 use Prim.Native.Nat.{ℕ}
 use lib.Dec.{leb}
 use Rattle.reading.specs.declared.Reason.{Reason}
-use Rattle.reading.specs.declared.Reason.the-variants.{WrongKind, EndsEarly, OverLimit, ForbiddenBit, EmptyField, AbsentMember, LongName, TrailingBytes, OutOfRange, ShortBuffer, FalsePartition, LiveOutsideFile, BadGoal, NoSelection, NoPlan, NameNotFound, HighRate}
+use Rattle.reading.specs.declared.Reason.the-variants.{WrongKind, EndsEarly, OverLimit, ForbiddenBit, EmptyField, AbsentMember, LongName, TrailingBytes, OutOfRange, ShortBuffer, FalsePartition, LiveOutsideFile, BadGoal, NoSelection, NoPlan, NameNotFound, HighRate, OrderOutsideFile}
 
 abbrev pub numberOf : Reason → ℕ
 numberOf WrongKind = 1
@@ -23,6 +23,7 @@ numberOf NoSelection = 14
 numberOf NoPlan = 15
 numberOf NameNotFound = 16
 numberOf HighRate = 17
+numberOf OrderOutsideFile = 18
 
 -- the numbers that are answers to input that is accepted: 14, 15 and 16. A later number is a refusal.
 abbrev pub answers : ℕ → Bool

@@ -23,6 +23,7 @@ pub enum Reason {
     NoPlan,
     NameNotFound,
     HighRate,
+    OrderOutsideFile,
 }
 
 // A reason, and the place that the rules give it.
@@ -69,5 +70,6 @@ pub fn number(reason: Reason) -> u32
         Reason::NoPlan => 15,
         Reason::NameNotFound => 16,
         Reason::HighRate => 17,
+        Reason::OrderOutsideFile => 18,
     }
 }

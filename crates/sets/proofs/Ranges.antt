@@ -171,6 +171,11 @@ every-at (suc k) test e i l = go (test k) refl e (every-at k test) (below-cases 
     go true q e r (inr h) = r e i h
     go false q e r c = absurd (false≢true e)
 
+pub every-cong : (n : ℕ) (test other : ℕ → Bool) → ((i : ℕ) → i < n → test i ≡ other i) → everyTo n test ≡ everyTo n other
+unfolding everyTo
+every-cong zero test other h = refl
+every-cong (suc k) test other h = ap₂ (λ (t rest : Bool). elim t as (λ t. Bool) [ true ↦ rest | false ↦ false ]) (h k (omega arith)) (every-cong k test other (λ i l. h i (omega arith)))
+
 pub at-every : (n : ℕ) (test : ℕ → Bool) → ((i : ℕ) → i < n → test i ≡ true) → everyTo n test ≡ true
 unfolding everyTo
 at-every zero test h = refl

@@ -1,0 +1,3 @@
+-- The laws that the call for a fair's orders is proved with.
+pub mod EntryLaws
+pub mod FairLaws
