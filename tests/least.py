@@ -44,7 +44,7 @@ CHECKS = {
     "showroom": 110_050,
     "showroom_faults": 27,
     "page": 21_900,
-    "runner": 121,
+    "runner": 126,
     "foolings": 290,
     "as_cpp": 11,
     "rust": 10,

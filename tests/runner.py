@@ -167,6 +167,7 @@ def nothing_is_touched(copy):
         (0, "./bench", "--quick", "--help"),
         (2, "./bench", "--nonsense"),
         (2, "./bench", "--quick", "surplus"),
+        (2, "./bench", "--fair", "surplus"),
         (2, "./bench", "--family"),
         (2, "./bench", "--peers-limit", "0"),
     ]:
@@ -263,7 +264,8 @@ def peers_of_the_bench(copy):
     equal("apt-get" in calls, False, "./bench installs nothing unasked")
     _, _, errors, _ = copy.run(["./bench", "--prices"])
     equal(errors.rstrip().endswith(": clasp gringo cbc"), True, f"./bench --prices says which are missing: {errors}")
-    equal(copy.run(["./bench", "--no-peers"])[1:3], ("measured --no-peers\n", ""), "./bench --no-peers misses none")
+    for word in ("--no-peers", "--fair"):
+        equal(copy.run(["./bench", word])[1:3], (f"measured {word}\n", ""), f"./bench {word} misses none")
     status, printed, _, calls = copy.run(["./bench", "--install-peers", "--quick"])
     equal((status, printed), (0, "measured --quick\n"), "./bench --install-peers")
     equal("apt-get -qq install -y clasp gringo cadical coinor-cbc\n" in calls, True, f"./bench --install-peers installs them: {calls}")

@@ -1,6 +1,7 @@
 //! The families of instances. The seed is fixed, so every run has the same instances.
 
 mod catalogues;
+pub mod fairs;
 pub mod fittings;
 pub mod networks;
 pub mod priced;
@@ -101,9 +102,12 @@ pub fn prices(seed: u64) -> Vec<Family> {
 }
 
 /// Each family has a generator of its own, so that a change to one leaves the others as they are.
+fn generator(seed: u64, name: &str) -> Random {
+    Random::new(name.bytes().fold(seed, |sum, byte| sum.wrapping_mul(31).wrapping_add(byte.into())))
+}
+
 fn family(seed: u64, name: &'static str, kind: Kind, draw: Draw) -> Family {
-    let own = name.bytes().fold(seed, |sum, byte| sum.wrapping_mul(31).wrapping_add(byte.into()));
-    let instances = draw(&mut Random::new(own));
+    let instances = draw(&mut generator(seed, name));
     for (label, question) in &instances {
         assert!(valid(question), "{name}: {label} is beyond the limits of a job file");
     }

@@ -1,6 +1,7 @@
 //! Benchmarks: the proved library beside its unproved twin and beside clasp, CaDiCaL and CBC, as ratios within one run.
 
 mod check;
+mod fair;
 mod families;
 mod growth;
 mod job;
@@ -11,9 +12,10 @@ mod stack;
 mod table;
 mod twin;
 
+use families::fairs::{self, Fairs, Sort};
 use families::{Family, Instances, Kind};
 use job::Question;
-use measure::{Asked, Case, Effort, Reply};
+use measure::{Asked, Case, Clock, Effort, Reply};
 use peers::{Peer, PeerTime, Peers, Sought};
 use stack::Stack;
 use std::path::Path;
@@ -23,11 +25,14 @@ use table::{Figures, Rival, Time};
 const SEED: u64 = 20_071_108;
 
 /// The script ./bench looks at these words first and says what each means; its --install-peers does not come here.
-const USAGE: &str = "usage: bench [--prices] [--family NAME] [--quick] [--growth] [--no-peers] [--peers-limit SECONDS]";
+const USAGE: &str =
+    "usage: bench [--prices] [--fair] [--family NAME] [--quick] [--growth] [--no-peers] [--peers-limit SECONDS]";
 
 struct Options {
     /// The families of prices, in place of those of choice and fitting.
     prices: bool,
+    /// The fairs alone. No peers.
+    fair: bool,
     /// Only families whose name has this part.
     family: String,
     peers: bool,
@@ -41,10 +46,12 @@ struct Options {
 
 fn options(mut words: impl Iterator<Item = String>) -> Option<Options> {
     let family = String::new();
-    let mut options = Options { prices: false, family, peers: true, limit: 10.0, quick: false, growth: false };
+    let mut options =
+        Options { prices: false, fair: false, family, peers: true, limit: 10.0, quick: false, growth: false };
     while let Some(word) = words.next() {
         match word.as_str() {
             "--prices" => options.prices = true,
+            "--fair" => options.fair = true,
             "--family" => options.family = words.next()?,
             "--no-peers" => options.peers = false,
             "--peers-limit" => options.limit = words.next()?.parse().ok().filter(|limit| *limit > 0.0)?,
@@ -58,8 +65,35 @@ fn options(mut words: impl Iterator<Item = String>) -> Option<Options> {
 
 impl Options {
     fn families(&self) -> impl Iterator<Item = Family> + '_ {
-        let all = if self.prices { families::prices(SEED) } else { families::all(SEED) };
+        let all = match (self.fair, self.prices) {
+            (true, _) => Vec::new(),
+            (_, true) => families::prices(SEED),
+            _ => families::all(SEED),
+        };
         all.into_iter().filter(|family| family.name.contains(&self.family))
+    }
+
+    /// They go with the families of choice and fitting.
+    fn fairs(&self, sort: Sort) -> impl Iterator<Item = Fairs> + '_ {
+        let all = if self.prices && !self.fair { Vec::new() } else { fairs::all(SEED, sort) };
+        all.into_iter().filter(|fairs| fairs.name.contains(&self.family))
+    }
+
+    fn has_families(&self) -> bool {
+        self.families().next().is_some()
+    }
+
+    fn has_fairs(&self) -> bool {
+        fairs::SORTS.into_iter().any(|sort| self.fairs(sort).next().is_some())
+    }
+
+    /// Of the cases of a family, one in so many is measured.
+    fn every(&self) -> usize {
+        if self.quick {
+            4
+        } else {
+            1
+        }
     }
 }
 
@@ -82,6 +116,8 @@ struct Bench {
     /// Seconds a question, for a peer.
     limit: f64,
     faults: Vec<String>,
+    /// Fairs that take longer than they may.
+    slow: Vec<String>,
     stack: Stack,
     /// The most bytes of stack that a call of ours took, and for which case.
     deepest: (usize, String),
@@ -92,6 +128,9 @@ const SAMPLED: usize = 100;
 /// Of a family of prices with more cases than this, peers get two: many take them longer than they have.
 const PRICED: usize = 7;
 
+/// Of a fair, so that all of them take some seconds.
+const FAIR_PATIENCE: f64 = 0.15;
+
 /// Who is measured beside ours and the twin.
 type Rivals = [Option<Rival>; 3];
 
@@ -99,17 +138,31 @@ impl Bench {
     fn figures(&mut self, family: &str, case: &Case, rivals: Rivals) -> Figures {
         let mut counts = twin::Counts::default();
         let replies: Vec<Reply> = case.asked.iter().map(|asked| self.reply(family, case, asked, &mut counts)).collect();
-        let (ours, twin) = measure::seconds(case, &self.effort);
-        self.deepen(family, case);
+        let [ours, twin] = measure::seconds(case, &self.effort);
+        self.deepen(&format!("{family}: {}", case.label), || case.ask(Asked::ours));
         let rivals = rivals.map(|rival| self.rival(rival?, family, case, &replies));
         Figures { label: case.label.clone(), ours, twin, nodes: counts.nodes, rivals }
     }
 
-    fn deepen(&mut self, family: &str, case: &Case) {
-        let used = self.stack.used(|| case.ask(Asked::ours));
+    fn deepen(&mut self, label: &str, run: impl FnMut()) {
+        let used = self.stack.used(run);
         if used > self.deepest.0 {
-            self.deepest = (used, format!("{family}: {}", case.label));
+            self.deepest = (used, label.to_string());
         }
+    }
+
+    /// What was measured of a fair, after its entries have been compared with single calls.
+    fn fair(&mut self, family: &str, sort: Sort, asked: &fair::Asked) -> fair::Figures {
+        let label = format!("fair, {} orders, {family}: {}", sort.name, asked.fair.label);
+        self.faults.extend(asked.fault().map(|fault| format!("{label}: {fault}")));
+        self.deepen(&label, || asked.ask_together());
+        let figures = asked.figures(sort.limit, &self.fair_effort());
+        self.slow.extend(figures.slow(sort.limit).map(|slow| format!("{label}: {slow}")));
+        figures
+    }
+
+    fn fair_effort(&self) -> Effort {
+        Effort { patience: FAIR_PATIENCE, clock: Clock::Thread, ..self.effort }
     }
 
     /// Our reply, after it and the twin's have been checked and compared.
@@ -165,7 +218,7 @@ impl Bench {
 
 /// How ours and the twin are measured.
 fn preface(bench: &Bench) {
-    let Effort { repetitions, seconds } = bench.effort;
+    let Effort { repetitions, seconds, .. } = bench.effort;
     println!(
         "Ours and the twin: the best of {repetitions} repetitions of at least {} ms each, in turn in one process, from
 the bytes of a job file to the answer; for a choice this is our own partition and then the selection. Nodes are
@@ -199,28 +252,35 @@ of more than {SAMPLED} questions they get every {SAMPLED}th, and their time is s
     println!();
 }
 
-fn run(options: &Options) -> Vec<String> {
-    let (repetitions, seconds) = if options.quick { (5, 0.0005) } else { (20, 0.0005) };
-    let peers = (options.peers && !options.growth).then(|| Peers::find(Path::new("target/bench/peers")));
+fn run(options: &Options) -> Bench {
+    let repetitions = if options.quick { 5 } else { 20 };
+    let peers =
+        (options.peers && !options.growth && !options.fair).then(|| Peers::find(Path::new("target/bench/peers")));
     let mut bench = Bench {
-        effort: Effort { repetitions, seconds },
+        effort: Effort { repetitions, seconds: 0.0005, patience: 4.0, clock: Clock::Monotonic },
         peers,
         limit: options.limit,
         faults: Vec::new(),
+        slow: Vec::new(),
         stack: Stack::new(),
         deepest: (0, String::new()),
     };
-    preface(&bench);
     if options.growth {
         grow(&mut bench);
     } else {
-        compare(&mut bench, options);
+        if options.has_families() {
+            compare(&mut bench, options);
+        }
+        if options.has_fairs() {
+            hold_fairs(&mut bench, options);
+        }
     }
     println!("The most stack that a question took: {} bytes, {}\n", bench.deepest.0, bench.deepest.1);
-    bench.faults
+    bench
 }
 
 fn grow(bench: &mut Bench) {
+    preface(bench);
     println!("{}\n", growth::legend());
     for series in growth::all(SEED) {
         println!("{}\n{}", series.title, growth::head());
@@ -236,6 +296,7 @@ fn grow(bench: &mut Bench) {
 fn compare(bench: &mut Bench, options: &Options) {
     let first = if options.prices { Kind::Price } else { Kind::Choice };
     let rivals = table::rivals(first);
+    preface(bench);
     legend(bench, first);
     println!("{}", table::head(rivals));
     let mut worst = String::new();
@@ -244,8 +305,7 @@ fn compare(bench: &mut Bench, options: &Options) {
         if kind.replace(family.kind) != Some(family.kind) {
             println!("{}", table::title(family.kind));
         }
-        let every = if options.quick { 4 } else { 1 };
-        let cases: Vec<Case> = cases(family.instances).into_iter().step_by(every).collect();
+        let cases: Vec<Case> = cases(family.instances).into_iter().step_by(options.every()).collect();
         let every = if options.prices && cases.len() > PRICED { cases.len().div_ceil(2) } else { 1 };
         let wanted = |number: usize| rivals.map(|rival| (number % every == 0).then_some(rival));
         let measured = cases.iter().enumerate().map(|(number, case)| bench.figures(family.name, case, wanted(number)));
@@ -256,19 +316,38 @@ fn compare(bench: &mut Bench, options: &Options) {
     println!("\nThe cases of the largest figures\n{worst}");
 }
 
+fn hold_fairs(bench: &mut Bench, options: &Options) {
+    println!("{}\n\n{}", fair::legend(&bench.fair_effort()), fair::head());
+    for sort in fairs::SORTS {
+        println!("{}", fair::title(sort));
+        let mut all = Vec::new();
+        for Fairs { name, fairs } in options.fairs(sort) {
+            let asked = fairs.into_iter().step_by(options.every()).map(fair::Asked::new);
+            let figures: Vec<fair::Figures> = asked.map(|asked| bench.fair(name, sort, &asked)).collect();
+            println!("{}", fair::row(name, &figures));
+            all.extend(figures);
+        }
+        println!("{}", fair::row("all of these", &all));
+    }
+    println!();
+}
+
 fn main() -> ExitCode {
     let Some(options) = options(std::env::args().skip(1)) else {
         eprintln!("{USAGE}");
         return ExitCode::from(2);
     };
-    if options.families().next().is_none() {
+    if !options.has_families() && !options.has_fairs() {
         eprintln!("bench: no family has '{}' in its name", options.family);
         return ExitCode::from(2);
     }
-    let faults = run(&options);
-    for fault in &faults {
+    let Bench { faults, slow, .. } = run(&options);
+    for fault in faults.iter().chain(&slow) {
         println!("{fault}");
     }
     println!("{}", if faults.is_empty() { "All answers agree." } else { "Answers differ or are wrong." });
-    ExitCode::from(u8::from(!faults.is_empty()))
+    if !slow.is_empty() {
+        println!("A fair takes longer than it may.");
+    }
+    ExitCode::from(u8::from(!faults.is_empty() || !slow.is_empty()))
 }

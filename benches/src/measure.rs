@@ -122,25 +122,53 @@ impl Case {
     }
 }
 
+/// The clocks of Linux, by their numbers.
+#[derive(Clone, Copy)]
+pub enum Clock {
+    /// Time as it passes.
+    Monotonic = 1,
+    /// Only while this thread has a processor. For runs so long that other work would take turns with them.
+    Thread = 3,
+}
+
+extern "C" {
+    fn clock_gettime(clock: i32, seconds_and_nanoseconds: *mut [i64; 2]) -> i32;
+}
+
+impl Clock {
+    fn seconds(self) -> f64 {
+        let mut time = [0; 2];
+        assert_eq!(unsafe { clock_gettime(self as i32, &mut time) }, 0);
+        time[0] as f64 + 1e-9 * time[1] as f64
+    }
+}
+
 /// How long to measure.
+#[derive(Clone, Copy)]
 pub struct Effort {
     pub repetitions: u32,
     /// The least time of a repetition.
     pub seconds: f64,
+    /// After this many seconds nothing is repeated any more.
+    pub patience: f64,
+    pub clock: Clock,
 }
 
-/// After this many seconds a case is not repeated any more.
-const PATIENCE: f64 = 4.0;
-
-/// Seconds of ours and of the twin: the best of several repetitions, taken in turn so that both meet the same noise.
-pub fn seconds(case: &Case, effort: &Effort) -> (f64, f64) {
-    let begin = Instant::now();
-    let mut best = (f64::INFINITY, f64::INFINITY);
+/// Seconds of ours and of the twin.
+pub fn seconds(case: &Case, effort: &Effort) -> [f64; 2] {
     let mut counts = twin::Counts::default();
+    best(effort, [&mut || case.ask(Asked::ours), &mut || case.ask(|asked| asked.twin(&mut counts))])
+}
+
+/// Seconds of each run: the best of several repetitions, taken in turn so that all meet the same noise.
+pub fn best<const RUNS: usize>(effort: &Effort, mut runs: [&mut dyn FnMut(); RUNS]) -> [f64; RUNS] {
+    let begin = Instant::now();
+    let mut best = [f64::INFINITY; RUNS];
     for _ in 0..effort.repetitions {
-        best.0 = best.0.min(timed(effort, || case.ask(Asked::ours)));
-        best.1 = best.1.min(timed(effort, || case.ask(|asked| asked.twin(&mut counts))));
-        if begin.elapsed().as_secs_f64() > PATIENCE {
+        for (least, run) in best.iter_mut().zip(&mut runs) {
+            *least = least.min(timed(effort, run));
+        }
+        if begin.elapsed().as_secs_f64() > effort.patience {
             break;
         }
     }
@@ -148,14 +176,14 @@ pub fn seconds(case: &Case, effort: &Effort) -> (f64, f64) {
 }
 
 /// Seconds a run. The clock is read between batches of runs that grow, so that reading it doesn't count.
-fn timed(effort: &Effort, mut run: impl FnMut()) -> f64 {
-    let begin = Instant::now();
+fn timed(effort: &Effort, run: &mut dyn FnMut()) -> f64 {
+    let begin = effort.clock.seconds();
     let (mut runs, mut batch) = (0, 1);
     loop {
         (0..batch).for_each(|_| run());
         runs += batch;
         batch *= 2;
-        let seconds = begin.elapsed().as_secs_f64();
+        let seconds = effort.clock.seconds() - begin;
         if seconds >= effort.seconds {
             return seconds / runs as f64;
         }

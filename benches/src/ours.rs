@@ -12,6 +12,23 @@ extern "C" {
         floor: u64,
         out: *mut u64,
     ) -> u32;
+    fn kitchen_fair(
+        file: *const u8,
+        file_len: usize,
+        orders: *const u64,
+        orders_len: usize,
+        words: *mut u64,
+        words_len: usize,
+        out: *mut u64,
+    ) -> u32;
+    fn kitchen_save_order(
+        file: *const u8,
+        file_len: usize,
+        order: u64,
+        to: *mut u8,
+        to_len: usize,
+        out: *mut u64,
+    ) -> u32;
     fn kitchen_price(file: *const u8, file_len: usize, rate: u64, out: *mut u64) -> u32;
     fn kitchen_plan(file: *const u8, file_len: usize, rounds: *mut u32, rounds_len: usize, out: *mut u64) -> u32;
 }
@@ -52,6 +69,25 @@ pub fn choose(file: &[u8], groups: &[u8], goals: &[u64], floor: u64) -> Result<(
         )
     };
     outcome(reason, out).map(|[selection, aside]| (selection, aside))
+}
+
+/// Status, selection and set aside of each order, in three words.
+pub fn fair(file: &[u8], orders: &[u64], words: &mut [u64]) -> Result<(), Refusal> {
+    let mut out = [0; 2];
+    let reason = unsafe {
+        let (orders, orders_len) = (orders.as_ptr(), orders.len());
+        let (words, words_len) = (words.as_mut_ptr(), words.len());
+        kitchen_fair(file.as_ptr(), file.len(), orders, orders_len, words, words_len, out.as_mut_ptr())
+    };
+    outcome(reason, out).map(|_| ())
+}
+
+/// The length of the file with this order in place of its own.
+pub fn save_order(file: &[u8], order: u64, to: &mut [u8]) -> Result<usize, Refusal> {
+    let mut out = [0; 2];
+    let reason =
+        unsafe { kitchen_save_order(file.as_ptr(), file.len(), order, to.as_mut_ptr(), to.len(), out.as_mut_ptr()) };
+    outcome(reason, out).map(|[length, _]| length as usize)
 }
 
 /// The cheapest selection, its total, and the tax on it.

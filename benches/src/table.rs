@@ -67,12 +67,12 @@ impl Figures {
 }
 
 /// Three digits that count.
-fn short(value: f64) -> String {
+pub fn short(value: f64) -> String {
     let digits = if value > 0.0 { 2 - value.log10().floor() as i32 } else { 0 };
     format!("{value:.*}", digits.clamp(0, 6) as usize)
 }
 
-fn ms(seconds: f64) -> String {
+pub fn ms(seconds: f64) -> String {
     short(seconds * 1000.0)
 }
 

@@ -28,6 +28,10 @@ const CATALOGUES: [Catalogue; 4] = [
     Catalogue { groups: 16, alternatives: 3, wishes: 3, accessories: 0, trade_ins: 16, further: 0.2, ordered: 0.7 },
 ];
 
+/// 64 articles and 64 wishes.
+const OF_FAIR: Catalogue =
+    Catalogue { groups: 16, alternatives: 3, wishes: 4, accessories: 8, trade_ins: 8, further: 0.3, ordered: 1.0 };
+
 impl Catalogue {
     fn all_wishes(&self) -> usize {
         self.groups * self.wishes
@@ -91,4 +95,8 @@ pub fn catalogues(random: &mut Random) -> Instances {
         }
     }
     instances
+}
+
+pub fn of_fair(random: &mut Random) -> Choice {
+    OF_FAIR.job(random)
 }

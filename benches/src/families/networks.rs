@@ -93,6 +93,12 @@ pub fn of_size(random: &mut Random, articles: usize, wishes: usize) -> Question 
     Question::Choose { job: random_network(random, articles, wishes, articles, m), floor: 0 }
 }
 
+/// A network of 64 wishes, by at most so many cliques and single articles.
+pub fn of_cliques(random: &mut Random, most: usize) -> Choice {
+    let m = EDGES[random.below(EDGES.len())];
+    random_network(random, ARTICLES, 64, most, m)
+}
+
 // Cliques
 
 /// A constraint problem of 8 variables with 8 values: an article is a value, and a wish asks for a value of its

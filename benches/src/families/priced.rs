@@ -137,12 +137,14 @@ pub fn drawn_clashes(random: &mut Random, mut job: Choice, edges: f64) -> Choice
     job
 }
 
+/// 64 articles, with so many carriers of each wish.
+pub fn carriers(random: &mut Random, wishes: usize, carriers: usize, edges: f64) -> Choice {
+    let job = network(wishes, &carried_by(random, ARTICLES, wishes, carriers));
+    drawn_clashes(random, job, edges)
+}
+
 pub fn six_carriers(random: &mut Random, prices: Prices) -> Instances {
-    let draw = |random: &mut Random, _| {
-        let job = network(32, &carried_by(random, ARTICLES, 32, 6));
-        drawn_clashes(random, job, 0.05)
-    };
-    priced(random, prices, draw)
+    priced(random, prices, |random, _| carriers(random, 32, 6, 0.05))
 }
 
 /// Rooms that have nothing to do with each other, each with 8 articles and 8 wishes of 3 carriers.
@@ -184,7 +186,7 @@ fn small_network(random: &mut Random) -> Choice {
 // Networks by the wishes of an article
 
 /// As many wishes as articles, of which each carries so many; what nobody carries then goes to somebody. No clashes.
-fn wishes_each(random: &mut Random, articles: usize, each: usize) -> Choice {
+pub fn wishes_each(random: &mut Random, articles: usize, each: usize) -> Choice {
     let mut carried: Vec<u64> = (0..articles).map(|_| random.subset(each, articles)).collect();
     for wish in 0..articles {
         if carried.iter().all(|set| set >> wish & 1 == 0) {

@@ -27,6 +27,7 @@ use Rattle.calls.specs.Name.{nameOf}
 use Rattle.calls.specs.Find.{findOf}
 use Rattle.calls.specs.Compare.{compareOf}
 use Rattle.calls.specs.Save.{saveOf}
+use Rattle.fair.specs.Fair.{fairOf}
 use Rattle.capi.specs.Returned.{Returned, returned, returnedThree, nothing, alone, passedWords, both, billWords, test, spotted}
 use Rattle.capi.specs.Version.{interfaceNumber}
 use Rattle.report.specs.Outcome.{outcomeOf, blankWords, textOf}
@@ -198,6 +199,25 @@ rowsBound =
     ∷ says (chooseOf fileApart groups [] 0) (refusedBy 14 0)
     ∷ []
 
+-- a fair. Articles 0 and 1 of A alone: an order without a selection, one with it, one with a wish that the file lacks, and an empty one, with a word past
+-- their entries; two orders, also with five words; no orders; one order, also with an order of the file's own that has a wish too many; the choice on the
+-- file with that order; the file without its last byte, with no words. A, which has more articles than wishes. B, with the set aside. A file whose choice
+-- says 14 at 1
+abbrev rowsFair : List Row
+rowsFair =
+    leaves (fairOf fileApart (3 ∷ 1 ∷ 4 ∷ 0 ∷ []) (nines 13)) (answered tt) (14 ∷ 0 ∷ 0 ∷ 0 ∷ 1 ∷ 2 ∷ 18 ∷ 0 ∷ 0 ∷ 0 ∷ 0 ∷ 0 ∷ 9 ∷ [])
+    ∷ leaves (fairOf fileApart (1 ∷ 2 ∷ []) (nines 6)) (answered tt) (0 ∷ 1 ∷ 2 ∷ 0 ∷ 2 ∷ 1 ∷ [])
+    ∷ leaves (fairOf fileApart (1 ∷ 2 ∷ []) (nines 5)) (refusedBy 10 0) (nines 5)
+    ∷ leaves (fairOf fileApart [] (nines 2)) (answered tt) (nines 2)
+    ∷ leaves (fairOf (set fileApart 3 4) (1 ∷ []) (nines 3)) (refusedBy 6 3) (nines 3)
+    ∷ leaves (fairOf fileApart (1 ∷ []) (nines 3)) (answered tt) (0 ∷ 1 ∷ 2 ∷ [])
+    ∷ says (offerOf (set fileApart 3 1)) (chosen 1 2)
+    ∷ leaves (fairOf (take 36 fileApart) (1 ∷ []) []) (refusedBy 2 36) []
+    ∷ leaves (fairOf fileA (4 ∷ []) (nines 3)) (answered tt) (18 ∷ 0 ∷ 0 ∷ [])
+    ∷ leaves (fairOf fileB (7 ∷ 2 ∷ []) (nines 6)) (answered tt) (0 ∷ 6 ∷ 1 ∷ 0 ∷ 2 ∷ 1 ∷ [])
+    ∷ leaves (fairOf fileCrossed (3 ∷ []) (nines 3)) (answered tt) (14 ∷ 0 ∷ 0 ∷ [])
+    ∷ []
+
 -- F: the fewest rounds of a plan, the plans of two rounds, and no plan within horizon 1. G: the same two; fact layers 1 and 2: the two facts are mutex
 -- in 1, and not in 2; round layers 1 and 2. A step that gives back what it takes
 abbrev rowsF : List Row
@@ -321,6 +341,8 @@ handedThree status first second third = record { status = status; words = first 
 abbrev rowsC : List Row
 rowsC =
     is (returned nothing (partitionOf fileA (nines 4) .answer)) (handed 0 0 0)
+    ∷ is (returned nothing (fairOf fileApart (3 ∷ 4 ∷ []) (nines 6) .answer)) (handed 0 0 0)
+    ∷ is (returned nothing (fairOf fileApart (1 ∷ 2 ∷ []) (nines 5) .answer)) (handed 10 0 0)
     ∷ is (returned passedWords (said (passOf fileB groups 7 7))) (handed 0 6 3)
     ∷ is (returned both (said (chooseOf fileB groups (7 ∷ []) 0))) (handed 0 6 1)
     ∷ is (returned both (said (atFloor fileShort 0))) (handed 2 45 0)
@@ -340,7 +362,7 @@ rowsC =
     ∷ is (returned alone (saveOf fileA (newWishes 1 1) (nines 46) .answer)) (handed 0 46 0)
     ∷ is (returned alone (saveOf fileA (newClashes 1 2) [] .answer)) (handed 6 29 0)
     ∷ is (returned alone (saveOf fileA (newName 1 (nines 257)) [] .answer)) (handed 7 37 0)
-    ∷ is interfaceNumber 6
+    ∷ is interfaceNumber 7
     ∷ []
 
 -- what the program prints, in bytes: "chosen 1 2" and "aside 0" of B; "rounds 2", "1: 0" and "2: 1 2" of F; "refused 2 at 45"; "refused 14 at 0" of
@@ -377,7 +399,8 @@ rowsAnswers =
     ∷ is (answers 14) true
     ∷ is (answers 16) true
     ∷ is (answers 17) false
+    ∷ is (answers 18) false
     ∷ []
 
 abbrev pub rows : List Row
-rows = rowsA ++ (rowsP ++ (rowsMoving ++ (rowsB ++ (rowsBound ++ (rowsF ++ (rowsNames ++ (rowsKeyboards ++ (rowsNumbers ++ (rowsSaving ++ (rowsC ++ (rowsText ++ (rowsSets ++ rowsAnswers))))))))))))
+rows = rowsA ++ (rowsP ++ (rowsMoving ++ (rowsB ++ (rowsBound ++ (rowsFair ++ (rowsF ++ (rowsNames ++ (rowsKeyboards ++ (rowsNumbers ++ (rowsSaving ++ (rowsC ++ (rowsText ++ (rowsSets ++ rowsAnswers)))))))))))))

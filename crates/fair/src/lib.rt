@@ -93,8 +93,9 @@ fn answer_each(
     requires { ⌜ (n ≤ 64) × (n ≤ length (now groups)) × Tabled 64 (now wishes) (now clashes) (now carriers) × ((λ u. getD (now groups) u 0) ≡ groupOf (listed n (now wishes) (now clashes))) × (entryWords * length (now orders) ≤ length (now words)) ⌝ }
     ensures { λ _. ⌜ now (words .exit) ≡ entries (orderOver (listed n (now (wishes .entry)) (now (clashes .entry))) «wish_count») (now (orders .entry)) ++ drop (entryWords * length (now (orders .entry))) (now (words .entry)) ⌝ }
 {
+    let count = orders.len();
     let mut i: usize = 0;
-    while i < orders.len() {
+    while i < count {
         let at = ENTRY_WORDS * i;
         let order = order_at(orders, i);
         answer(

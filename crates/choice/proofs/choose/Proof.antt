@@ -35,7 +35,7 @@ among-requires c κs =
     let wishes = now (e .args .wishes) in (
       e .pre .0,
       subst (λ (t : List ℕ). Tabled 64 wishes (c .before .before .before .both-ways .result) t) (sym (c .before .before .transposed .ensures))
-      (subst (λ (t : List ℕ). Tabled 64 wishes t (transposed 64 wishes)) (sym (c .before .before .before .both-ways .ensures)) (tables-right 64 wishes (now (e .args .clashes)))),
+          (subst (λ (t : List ℕ). Tabled 64 wishes t (transposed 64 wishes)) (sym (c .before .before .before .both-ways .ensures)) (tables-right 64 wishes (now (e .args .clashes)))),
     )
 
 returns-2 : tie.Need-returns-2

@@ -41,7 +41,7 @@ answer-each-requires c κs =
       s .pre .0,
       room,
       subst (λ (t : List ℕ). Tabled 64 (job .wishes) (both .result) t) (sym (c .before .before .before .before .before .before .before .before .before .transposed .ensures))
-      (subst (λ (t : List ℕ). Tabled 64 (job .wishes) t (transposed 64 (job .wishes))) (sym (both .ensures)) (tables-right 64 (job .wishes) (job .clashes))),
+          (subst (λ (t : List ℕ). Tabled 64 (job .wishes) t (transposed 64 (job .wishes))) (sym (both .ensures)) (tables-right 64 (job .wishes) (job .clashes))),
       own-groups 64 (job .articles) (job .wishes) (both .result) (replicate {A = ℕ} 64 0) groups (zeros 64) (c .before .before .before .before .before .before .partition .ensures),
       s .pre .1,
     )

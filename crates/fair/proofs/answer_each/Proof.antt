@@ -15,11 +15,11 @@ use Rattle.fair.proofs.answer_each.Statement.{statement}
 use Rattle.fair.proofs.answer_each.Tie as tie
 
 abbrev Inv-loop : tie.InvT-loop
-Inv-loop wishes clashes carriers groups n wish-count orders words₀ i₀ words i =
+Inv-loop wishes clashes carriers groups n wish-count orders words₀ count i₀ words i =
     (i ≤ length orders) × (length words ≡ length words₀) × (words ≡ entries (orderOver (listed n wishes clashes) wish-count) (take i orders) ++ drop (entryWords * i) words₀)
 
 abbrev μ-loop : tie.MeasureT-loop
-μ-loop wishes clashes carriers groups n wish-count orders words₀ i₀ words i = length orders - i
+μ-loop wishes clashes carriers groups n wish-count orders words₀ count i₀ words i = length orders - i
 
 loop-holds : tie.Need-loop-holds Inv-loop μ-loop
 loop-holds c =
@@ -72,7 +72,7 @@ loop-again c =
       omega arith,
       same-len-mid (entryWords * l .i) (length (l .words) - entryWords * l .i) (l .words) (lent .last .1 .1 .1 .1 .1 .1 .1 .0) (lent .kept .1 .1 .1 .1 .1 .1 .1 .0) ∙ l .inv .1,
       put-open (l .words) (lent .last .1 .1 .1 .1 .1 .1 .1 .0) (entryWords * l .i) at ∙ ap (λ (q : List ℕ). take (entryWords * l .i) (l .words) ++ q) put
-      ∙ entries-turn answer (now (a .orders)) (now (a .words)) (l .words) (l .i) (omega (arith, c .before .before .before .before .before .loop-test .taken)) (l .inv .2),
+          ∙ entries-turn answer (now (a .orders)) (now (a .words)) (l .words) (l .i) (omega (arith, c .before .before .before .before .before .loop-test .taken)) (l .inv .2),
     )
 
 same-length : tie.Need-same-length Inv-loop μ-loop
