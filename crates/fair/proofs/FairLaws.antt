@@ -84,10 +84,13 @@ module _ (f orders old : List ℕ) where
 
   module _ (bytes : Bytes f) (r : ReadChoice) (R : ChoiceRead f r) {v : Verdict} (tested : v ≡ verdictOf (roomTest (length old / entryWords) (length orders))) where
     -- each order is answered as on the job of the file
+    same-answer : (wanted : ℕ) → orderOver (networkIn r) (r .«wish_count») wanted ≡ orderIn (R .job) wanted
+    same-answer wanted =
+        ap₂ (λ (w : ℕ) (a : Answer Chosen). unless (leb (2 ^ w) wanted) OrderOutsideFile a) (R .counted)
+        (ap (λ (N : Network). searched (offered N wanted)) (R .network) ∙ offer-is (networkOf (R .job)) wanted ∙ ap (offerOver (networkOf (R .job))) (sym (order-new f bytes (R .is) wanted)))
+
     same-answers : orderOver (networkIn r) (r .«wish_count») ≡ orderIn (R .job)
-    same-answers = λ i wanted.
-        unless (leb (2 ^ R .counted i) wanted) OrderOutsideFile
-        ((ap (λ (N : Network). searched (offered N wanted)) (R .network) ∙ offer-is (networkOf (R .job)) wanted ∙ ap (offerOver (networkOf (R .job))) (sym (order-new f bytes (R .is) wanted))) i)
+    same-answers = λ i wanted. same-answer wanted i
 
     test : v ≡ verdictOf (roomTest (length old) (entryWords * length orders))
     test = tested ∙ ap verdictOf (room-test (length old) (length orders))
