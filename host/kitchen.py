@@ -12,9 +12,10 @@
 
 A job file is bytes; docs/RULES.md says how it is laid out, and include/kitchen.h what each call takes and answers. Sets
 are Python sets of numbers. Prices are in cents, and below 0 for a trade-in: `article({0}, name="Larder", price=12990)`; then
-`shop.price(file, 1900)` answers the cheapest selection, its total, and its tax at 19 percent. A `NoSelection(place)` and
-`NoPlan` are answers. `Refused(number, place)` is raised if a call is turned down, and `Unusable` if a job cannot be written
-or the library cannot be used.
+`shop.price(file, 1900)` answers the cheapest selection, its total, and its tax at 19 percent. `shop.fair(file, orders)`
+answers a list of orders against one file. A `NoSelection(place)`, `NoPlan` and `OrderOutsideFile` are answers.
+`Refused(number, place)` is raised if a call is turned down, and `Unusable` if a job cannot be written or the library cannot be
+used.
 
 What is built, written and read here, and whether two names are equal by `same_name`, is plain Python and only tested; what
 `Library` answers is what the proved calls answered for these very bytes.
@@ -26,7 +27,7 @@ import unicodedata
 from collections import namedtuple
 
 # The number of the interface in include/kitchen.h. A library of another number is not used.
-VERSION = 6
+VERSION = 7
 
 # A kind of job: its first byte and word, its records and what sets are counted against, the limit of both counts, the
 # limit of the horizon if there is one, the bytes of a set, the sets of its head and those of a record, and whether a record
@@ -48,7 +49,7 @@ Record = namedtuple("Record", "sets name price", defaults=[0])
 # What is answered. Both of a selection are sets of articles; if there is none, the place is the index of the first goal
 # that falls short, and the count of goals if none does. A pass leaves a set of articles live; its sum is that of all
 # contributions before it. What is priced is a set of articles, with its total and its tax in cents; if there is none, the place
-# is always 0. The rounds of a plan are sets of steps, in order.
+# is always 0. Of a list of orders no place is told: it is None. The rounds of a plan are sets of steps, in order.
 Selection = namedtuple("Selection", "articles aside")
 NoSelection = namedtuple("NoSelection", "place")
 Passed = namedtuple("Passed", "live sum")
@@ -67,7 +68,8 @@ class Answer:
 
 
 NoPlan = Answer("NoPlan")
-NO_SELECTION, NO_PLAN, NO_NAME = 14, 15, 16  # their numbers in docs/RULES.md
+OrderOutsideFile = Answer("OrderOutsideFile")  # an order of a list names a wish that the file lacks
+NO_SELECTION, NO_PLAN, NO_NAME, ORDER_OUTSIDE_FILE = 14, 15, 16, 18  # their numbers in docs/RULES.md
 
 
 class Refused(Exception):
@@ -324,6 +326,7 @@ def members_of(number):
 # ---- the proved calls
 
 FACT_WORDS, ROUND_WORDS = 32, 64  # the mutex words of a fact layer and of a round layer
+ENTRY_WORDS = 3  # of an order in a list: status, selection, set aside
 LONGEST_CHOICE = 3467  # bytes; no choice file that is in order has more
 LARGEST = 2**64 - 1
 
@@ -353,6 +356,22 @@ def group_bytes(groups):
         if not 0 <= group <= 255:
             raise Unusable(f"{group} is not the number of a group, from 0 to 255")
     return bytes(groups)
+
+
+def set_words(sets):
+    """Sets as words, one after the other."""
+    words = [word(number_of(members)).value for members in sets]
+    return (ctypes.c_uint64 * len(words))(*words)
+
+
+def entry(status, articles, aside):
+    """The answer to one order of a list, from its three words."""
+    if status == 0:
+        return Selection(members_of(articles), members_of(aside))
+    none = {NO_SELECTION: NoSelection(None), ORDER_OUTSIDE_FILE: OrderOutsideFile}
+    if status not in none:
+        raise Unusable(f"the library answers an order by the status {status}, which no order has")
+    return none[status]
 
 
 def own_goals(file):
@@ -432,8 +451,7 @@ class Library:
         """
         groups = self.partition(file) if groups is None else group_bytes(groups)
         goals = own_goals(file) if goals is None else goals
-        lent = (ctypes.c_uint64 * len(goals))(*(word(number_of(goal)).value for goal in goals))
-        status, first, second = self.call("choose", file, groups, lent, word(floor))
+        status, first, second = self.call("choose", file, groups, set_words(goals), word(floor))
         if status == NO_SELECTION:
             return NoSelection(first)
         if status:
@@ -460,6 +478,18 @@ class Library:
         if status:
             raise Refused(status, first)
         return Priced(members_of(first), signed(total), signed(tax))
+
+    def fair(self, file, orders):
+        """An answer for each order of a list, in one call: a Selection, as `choose` gives it for the file with that order, a
+        NoSelection(None), or OrderOutsideFile.
+
+        An order is a set of wishes, and stands in place of the file's own. One that names a wish which the file lacks is
+        OrderOutsideFile, and the others are answered all the same; a wish from 64 on is not usable.
+        """
+        orders = set_words(orders)
+        words = (ctypes.c_uint64 * (ENTRY_WORDS * len(orders)))()
+        self.answered("fair", file, orders, words)
+        return [entry(*words[at : at + ENTRY_WORDS]) for at in range(0, len(words), ENTRY_WORDS)]
 
     # -- choice files with a change
 

@@ -6,7 +6,7 @@
  *     tools/library
  *
  * which makes target/lib/libkitchen.a, an archive to link, and target/lib/libkitchen.so, a shared library for languages
- * that load one; its soname is libkitchen.so.6. `make install` puts both and this header where your system has such
+ * that load one; its soname is libkitchen.so.7. `make install` puts both and this header where your system has such
  * things, and in the folder that `make dist` packs both are in lib/.
  *
  * A program in C that chooses, from a job file on standard input, is built by
@@ -56,18 +56,19 @@
  *
  * host/ has longer examples, with names and plans.
  *
- * Answers. Each of the fourteen calls returns 0 for an answer, and otherwise the number of the reason why it was turned
+ * Answers. Each of the fifteen calls returns 0 for an answer, and otherwise the number of the reason why it was turned
  * down. 14, 15 and 16 are answers as well, in the form of a refusal: the input is in order, and there is no such
- * selection, plan or name. All others say that the input is at fault; `tools/job explain` puts them into words. A call
- * always writes all words of `out`, two of them, and three for kitchen_price: the values of the answer, named beside
- * each function, or the place of the refusal and zeros; unused words are 0. `out` must not be null. It is the return
- * value and no lent buffer: reason 10 never speaks of it.
+ * selection, plan or name. All others say that the input is at fault; `tools/job explain` puts them into words. No call
+ * returns 18: it is a status, which kitchen_fair writes beside an order. A call always writes all words of `out`, two of
+ * them, and three for kitchen_price: the values of the answer, named beside each function, or the place of the refusal
+ * and zeros; unused words are 0. `out` must not be null. It is the return value and no lent buffer: reason 10 never
+ * speaks of it.
  *
  * Prices. An article of a choice file may have a price in cents, of 32 bits and with a sign; a trade-in has one below 0.
  * It is a part of the job that a file states, so the calls that save keep it. Only kitchen_price goes by prices.
  *
  * Arguments. A slice is a pointer and a length, in elements. The pointer of an empty slice may be null. Buffers must
- * not overlap each other, the file, a name or `out`; so a file is saved into a buffer of its own. A refusal writes to no
+ * not overlap each other, another argument or `out`; so a file is saved into a buffer of its own. A refusal writes to no
  * buffer; elements after those that an answer fills keep what they held. Sets are numbers by their bits: bit i is 1 if i
  * is a member. `groups` must have at least a byte for each article of the file; KITCHEN_ARTICLES bytes always do, and
  * more may be lent. No file that is in order is longer than KITCHEN_LONGEST bytes. A program that reads one byte more of
@@ -83,14 +84,15 @@
  * millisecond, and a plan mostly some hundredths to some tenths of one; the hardest plans in it take about a second, and
  * one that is not in it takes the same search without proofs some 25 s. A price takes some hundredths of a millisecond to
  * some milliseconds, and on the worst jobs that were found about a quarter of a second. No bound is promised: all three
- * problems are hard. If you must not wait, plan and price in a process of its own, which you can end.
+ * problems are hard. If you must not wait, plan and price in a process of its own, which you can end. A fair makes a
+ * choice for each of its orders; a long list may be handed over in shares, since no call depends on another.
  */
 #ifndef KITCHEN_H
 #define KITCHEN_H
 
 /* Goes up whenever a declaration or a number below changes, the meaning of a word of `out`, or what a call answers.
  * kitchen_version() tells the number of the library that was built. */
-#define KITCHEN_VERSION 6
+#define KITCHEN_VERSION 7
 
 #include <stddef.h>
 #include <stdint.h>
@@ -102,25 +104,27 @@ extern "C" {
 /* What a call returns: 0, or a reason by its number in docs/RULES.md, "Reasons to turn a call down". */
 enum {
     KITCHEN_ANSWERED = 0,
-    KITCHEN_WRONG_KIND = 1,       /* the file is empty, or of a kind that the call does not take */
-    KITCHEN_ENDS_EARLY = 2,       /* the file ends before an item is complete */
-    KITCHEN_OVER_LIMIT = 3,       /* a count or the horizon exceeds its limit */
-    KITCHEN_FORBIDDEN_BIT = 4,    /* a bit map has a bit that must be 0 */
-    KITCHEN_EMPTY_FIELD = 5,      /* a record's field is present and zero, or a name has length 0 */
-    KITCHEN_ABSENT_MEMBER = 6,    /* a set has a member that the file lacks, or a clash is not with a lower article */
-    KITCHEN_LONG_NAME = 7,        /* a name is longer than 32 bytes */
-    KITCHEN_TRAILING_BYTES = 8,   /* something follows the last record */
-    KITCHEN_OUT_OF_RANGE = 9,     /* a layer number is out of range, or there is no such article to change */
-    KITCHEN_SHORT_BUFFER = 10,    /* a lent buffer is too short */
-    KITCHEN_FALSE_PARTITION = 11, /* a group byte is not below n, or articles that do not clash are in one group */
-    KITCHEN_ABSENT_ARTICLE = 12,  /* the live set has an article that the file lacks */
-    KITCHEN_WRONG_GOAL = 13,      /* a projection goal is empty, or has a wish that the order lacks */
+    KITCHEN_WRONG_KIND = 1,         /* the file is empty, or of a kind that the call does not take */
+    KITCHEN_ENDS_EARLY = 2,         /* the file ends before an item is complete */
+    KITCHEN_OVER_LIMIT = 3,         /* a count or the horizon exceeds its limit */
+    KITCHEN_FORBIDDEN_BIT = 4,      /* a bit map has a bit that must be 0 */
+    KITCHEN_EMPTY_FIELD = 5,        /* a record's field is present and zero, or a name has length 0 */
+    KITCHEN_ABSENT_MEMBER = 6,      /* a set has a member that the file lacks, or a clash is not with a lower article */
+    KITCHEN_LONG_NAME = 7,          /* a name is longer than 32 bytes */
+    KITCHEN_TRAILING_BYTES = 8,     /* something follows the last record */
+    KITCHEN_OUT_OF_RANGE = 9,       /* a layer number is out of range, or there is no such article to change */
+    KITCHEN_SHORT_BUFFER = 10,      /* a lent buffer is too short */
+    KITCHEN_FALSE_PARTITION = 11,   /* a group byte is not below n, or articles that do not clash are in one group */
+    KITCHEN_ABSENT_ARTICLE = 12,    /* the live set has an article that the file lacks */
+    KITCHEN_WRONG_GOAL = 13,        /* a projection goal is empty, or has a wish that the order lacks */
     /* answers to input that is in order */
-    KITCHEN_NO_SELECTION = 14,    /* there is no selection whose number is the floor or greater */
-    KITCHEN_NO_PLAN = 15,         /* there is no plan whose count of rounds is the horizon or less */
-    KITCHEN_NO_NAME = 16,         /* that name belongs to no article and to no step */
+    KITCHEN_NO_SELECTION = 14,      /* there is no selection whose number is the floor or greater */
+    KITCHEN_NO_PLAN = 15,           /* there is no plan whose count of rounds is the horizon or less */
+    KITCHEN_NO_NAME = 16,           /* that name belongs to no article and to no step */
     /* and a fault of an argument again */
-    KITCHEN_HIGH_RATE = 17        /* a tax rate is above 10,000 hundredths of a percent */
+    KITCHEN_HIGH_RATE = 17,         /* a tax rate is above 10,000 hundredths of a percent */
+    /* and a status beside an order, which no call returns */
+    KITCHEN_ORDER_OUTSIDE_FILE = 18 /* an order of a fair names a wish that the file lacks */
 };
 #define KITCHEN_ABSENT_LAYER KITCHEN_OUT_OF_RANGE /* its name up to version 2 */
 
@@ -135,6 +139,7 @@ enum {
     KITCHEN_RATE = 10000,           /* the highest tax rate, in hundredths of a percent */
     KITCHEN_FACT_WORDS = 32,        /* the mutex words of a fact layer */
     KITCHEN_ROUND_WORDS = 64,       /* the mutex words of a round layer */
+    KITCHEN_ENTRY_WORDS = 3,        /* the words of an entry of a fair */
     KITCHEN_LONGEST_CHOICE = 3467,  /* no choice file that is in order has more bytes */
     KITCHEN_LONGEST_FITTING = 1484, /* no fitting file that is in order has more bytes */
     KITCHEN_LONGEST = 3467          /* the greater of the two */
@@ -176,6 +181,25 @@ uint32_t kitchen_choose(const uint8_t *file, size_t file_len, const uint8_t *gro
  * selection", and its place is always 0 here. There are no groups, no goals and no floor.
  * out: the selection, the total, the tax */
 uint32_t kitchen_price(const uint8_t *file, size_t file_len, uint64_t rate, uint64_t out[3]);
+
+/* The orders of a trade fair together: the file is read once, as a catalogue, and a choice is made for each order of the
+ * list in place of the file's own, which plays no part. Any list will do, also one with the same order twice. Each order
+ * has an entry of KITCHEN_ENTRY_WORDS words, one entry after the other: its status, its selection, its set aside. Status
+ * 0 is a selection, and the two sets are those that kitchen_choose answers on the file with that order: by our own
+ * partition, with the order as the only goal, or no goal if it is 0, and with the floor 0. Otherwise both sets are 0: 14
+ * is "no selection", without the place that kitchen_choose has for it, and 18 is an order with a wish that the file
+ * lacks. There is no other status, and no order turns the call down:
+ *
+ *     uint64_t orders[2] = {3, 4}, words[2 * KITCHEN_ENTRY_WORDS];
+ *     if (kitchen_fair(file, len, orders, 2, words, 2 * KITCHEN_ENTRY_WORDS, out) == 0)
+ *         for (int i = 0; i < 2; i++)
+ *             printf("status %d, selection %" PRIu64 "\n", (int)words[3 * i], words[3 * i + 1]);
+ *
+ * Needs KITCHEN_ENTRY_WORDS words for each order, and none if there is no order; fewer are 10, which is tested after the
+ * file.
+ * out: 0, 0 */
+uint32_t kitchen_fair(const uint8_t *file, size_t file_len, const uint64_t *orders, size_t orders_len, uint64_t *words,
+                      size_t words_len, uint64_t out[2]);
 
 /* Fact layer `layer`, 0 to the horizon, with the mutex words of 32 facts. Needs 32 words.
  * out: the facts, 0 */

@@ -1,5 +1,5 @@
 #!/usr/bin/env python3
-"""Runs the second program beside ours: all fourteen calls, with their buffers, through the C interface.
+"""Runs the second program beside ours: all fifteen calls, with their buffers, through the C interface.
 
     beside.py LIBRARY [--fault N]
 
@@ -8,9 +8,10 @@ small files of a sort, drawn ones, wide ones, at the edge of the words, and dama
 changed, lengthened, over their limits, with forbidden bits; and some whose plan is long looked for. What is saved is saved once
 more, and back. What falls short is tried on every selection. Names are searched for in other writings, and among names that are
 nearly the same. What is cheapest is asked of files of few articles and of many, at rates that there are and such that there are
-not, and again with one price moved, which the total has to follow. The same files come in every run. A difference is printed, and
-ends it with status 1; otherwise it prints how much was compared, and what of it mattered. --fault makes the second program err on
-purpose (FAULTS in rules.py): then a difference has to be found.
+not, and again with one price moved, which the total has to follow. What a fair answers to an order has to be what is chosen on the
+file that is saved with it. The same files come in every run. A difference is printed, and ends it with status 1; otherwise it prints
+how much was compared, and what of it mattered. --fault makes the second program err on purpose (FAULTS in rules.py): then a
+difference has to be found.
 """
 
 import argparse
@@ -50,6 +51,23 @@ LENGTHS = [0, 1, 31, 32, 33, 255, 256, 257, 288, 65536]
 PLAIN = [Change("order", None, set()), Change("wishes", 0, {0}), Change("clashes", 0, set()), Change("name", 0, b"a")]
 IN_TURN = [*PLAIN, Change("name", FULL, b"n" * 33)]
 LONGER = 40  # more bytes than a change adds to a file
+
+# Orders at a fair and a count of words, in turn for files that need not be in order: enough words, too few, and no orders. They are
+# three, so that they do not keep step, either.
+FAIRS_IN_TURN = [([1, 0, FULL], 11), ([0], 2), ([], 1)]
+
+# Two files without a selection: articles 0 and 1 of P alone, where the order falls short; and two articles that carry one wish of two.
+SHORT = written(rules.read(P, (CHOICE,))._replace(articles=rules.read(P, (CHOICE,)).articles[:2]))
+UNCARRIED = written(Choice(2, {0, 1}, [Article({0}, set(), b"", 5), Article({0}, set(), b"")]))
+
+# Orders at a fair, and what is answered to each: a status, the selection and the set aside.
+FAIRS = [
+    (A, {3: (0, 4, 0), 0: (0, 0, 0), 1: (0, 1, 0), 2: (0, 2, 0), 4: (18, 0, 0), 7: (18, 0, 0), 2**63: (18, 0, 0), FULL: (18, 0, 0)}),
+    (B, {7: (0, 6, 1), 2: (0, 2, 1), 3: (0, 2, 1), 5: (0, 5, 0), 4: (0, 4, 0), 8: (18, 0, 0)}),
+    (SHORT, {0: (0, 0, 0), 3: (14, 0, 0), 1: (0, 1, 2), 2: (0, 2, 1), 5: (18, 0, 0)}),
+    (UNCARRIED, {3: (14, 0, 0), 1: (0, 1, 0), 2: (14, 0, 0)}),
+    (NOTHING, {0: (0, 0, 0), 1: (18, 0, 0)}),
+]
 
 
 # Prices of A's articles, a rate, and what comes of it: the cheapest of the selections 4, 5 and 6, its total and its tax.
@@ -171,6 +189,11 @@ def drawn_change(job, draw, field, article):
 # What may fall short
 
 
+def place_of_14(job, order):
+    """Where the program tells 14, if this is the order and there is no selection."""
+    return rules.first_short(job, rules.own_groups(job), [order])
+
+
 def crowded_choice(draw):
     """Most articles clash, and each carries few wishes: a pass may strike all that carry what a later goal asks for."""
     n, w = draw.randint(3, 6), draw.randint(2, 5)
@@ -221,6 +244,38 @@ def drawn_rates(draw):
     return one, draw.choice([one, other])
 
 
+# What is asked at a fair
+
+
+def without_63(job):
+    """A job of 64 wishes without the last."""
+    articles = [article._replace(wishes=article.wishes - {63}) for article in job.articles]
+    return Choice(63, job.order - {63}, articles)
+
+
+def drawn_order(job, draw):
+    """One without a wish, the file's own, a few wishes, these with one that the file lacks, or one at the edge of what fits."""
+    few = number(draw.sample(range(job.wishes), draw.randint(0, min(job.wishes, 6))))
+    lacked = [few | 2 ** draw.randrange(job.wishes, 64)] if job.wishes < 64 else []
+    return draw.choice([0, number(job.order), few, few, few, few, *lacked, draw.choice(at_the_edge(job.wishes))])
+
+
+def drawn_orders(job, draw):
+    """Up to five, and often one of them twice."""
+    orders = [drawn_order(job, draw) for _ in range(draw.randrange(5))]
+    return orders + draw.choice([orders[:1], [drawn_order(job, draw)]])
+
+
+def words_for(orders, more):
+    """How many words are lent: one too few, if that can be, just enough, two more, and so many more."""
+    return [count for count in (3 * len(orders) + by for by in (-1, 0, 2, more)) if count >= 0]
+
+
+def entries_in(words):
+    """A status, a selection and a set aside for each order."""
+    return list(zip(words[::3], words[1::3], words[2::3]))
+
+
 # What is asked
 
 
@@ -228,7 +283,7 @@ class Beside:
     """Asks ours and the second program, compares, and counts what was compared and what of it mattered."""
 
     def __init__(self, library):
-        self.ours, self.tally, self.in_turn = Library(library), Counter(), cycle(IN_TURN)
+        self.ours, self.tally, self.in_turn, self.fairs_in_turn = Library(library), Counter(), cycle(IN_TURN), cycle(FAIRS_IN_TURN)
         self.draw = random.Random(20261121)  # for rates and other prices
 
     def answer(self, words, action, *arguments):
@@ -299,6 +354,38 @@ class Beside:
         if floor:
             self.excluded("short goals", file, every)
 
+    def fair(self, file, orders, count):
+        """The entries of ours, if so many words are lent; None if the fair is refused."""
+        words = [MARK[8]] * count
+        found, expected = self.answer(lambda after: (0, 0), rules.fair, file, list(map(of, orders)), words)
+        status, _, after = self.same("fair", (file, (8, orders), (8, words)), expected, found)
+        if status:
+            self.tally[f"fair refused {status}"] += 1
+            self.tally["words of a refused fair that stayed"] += count
+            return None
+        entries = entries_in(after[-1][: 3 * len(orders)])
+        self.tally["words after a fair that stayed"] += count - 3 * len(orders)
+        self.count_fair(rules.read(file, (CHOICE,)), orders, entries)
+        return entries
+
+    def count_fair(self, job, orders, entries):
+        """Counts what was asked at a fair that is not refused, and what came of it."""
+        statuses = [status for status, _, _ in entries]
+        self.tally["fairs"] += 1
+        self.tally["fairs without orders"] += not orders
+        self.tally["fairs of one order"] += len(orders) == 1
+        self.tally["fairs with every status"] += {0, 14, 18} <= set(statuses)
+        for at, (order, (status, selection, aside)) in enumerate(zip(orders, entries)):
+            self.tally[f"entries of {status}"] += 1
+            self.tally["entries for no wish"] += order == 0
+            self.tally["entries for the order of the file"] += order == number(job.order)
+            self.tally["entries for an order once more"] += order in orders[:at]
+            self.tally["entries for the lowest wish that the file lacks"] += order == 2**job.wishes
+            self.tally["entries that set aside"] += aside > 0
+            self.tally["entries that choose article 63"] += selection >> 63
+            self.tally["entries that set article 63 aside"] += aside >> 63
+            self.tally["entries of 14 where the choice has another place"] += status == 14 and place_of_14(job, of(order)) > 0
+
     def price(self, file, rate):
         """Status and words of ours."""
         words = lambda found: as_words(number(found[0]), *found[1:])
@@ -340,9 +427,7 @@ class Beside:
 
     def not_priced(self, job):
         """Counts where the choice tells 14, whose place the price does not tell."""
-        goals = [job.order] if job.order else []
-        place = rules.first_short(job, rules.own_groups(job), goals)
-        self.tally["14 of the price where the choice has another place"] += place > 0
+        self.tally["14 of the price where the choice has another place"] += place_of_14(job, job.order) > 0
 
     def both_ways(self, job):
         """The second program finds the same among all selections as by its search with bounds."""
@@ -489,13 +574,33 @@ class Beside:
             other = self.after(file, second) if first[:2] == second[:2] else self.after(file, second, first)
             self.agree("saved twice", self.after(file, first, second), other)
 
+    def on_saved(self, file, order):
+        """What ours chooses, as the program does, on the file that ours saves with this order; 18 if it cannot be saved with it."""
+        status, (length, _), slices_after = self.ours.call("save_order", file, order, (1, [MARK[1]] * len(file)))
+        if (status, length) == (6, 3):
+            return 18, 0, 0
+        new = bytes(slices_after[-1][:length])
+        groups = self.ours.call("partition", new, (1, [MARK[1]] * 64))[2][-1]
+        status, words, _ = self.ours.call("choose", new, (1, groups), (8, [order] if order else []), 0)
+        return status, *((0, 0) if status else words)
+
+    def fairing(self, file, orders, counts):
+        """Into so many words, the last time into enough. Each entry is what is chosen on the file that is saved with that order."""
+        for count in counts:
+            entries = self.fair(file, orders, count)
+        for order, entry in zip(orders, entries):
+            chosen = self.on_saved(file, order)
+            self.tally[f"entries as on the saved file of {entry[0]}"] += 1
+            if entry != chosen:
+                raise Differ(f"fair {file.hex()} {orders}: the entry for {order} is {entry}, and on the saved file {chosen}")
+
     def saves(self, file):
         """Each call that saves, on a file that need not be in order."""
         for change in PLAIN:
             self.save(file, change, len(file) + LONGER)
 
     def reading(self, file):
-        """The ten calls that do not save, and in turn one that does, with little else than the file: a refused one has to be
+        """The eleven calls that do not save, and in turn one that does, with little else than the file: a refused one has to be
         refused alike by all."""
         self.partition(file, 64)
         self.filter_pass(file, [0] * 64, 0, 1)
@@ -510,6 +615,7 @@ class Beside:
         self.compare(file, file[:-1])
         self.price(file, 1900)
         self.price(file, 10_001)
+        self.fair(file, *next(self.fairs_in_turn))
         self.save(file, next(self.in_turn), len(file) + LONGER)
 
     def choice(self, file, draw):
@@ -631,6 +737,12 @@ class Beside:
         for place, bit in product(range(len(file)), range(8)):
             self.compare(file, file[:place] + bytes([file[place] ^ 1 << bit]) + file[place + 1 :])
 
+    def fair_in_full(self, file):
+        """Every order by itself and every two, those among them that name wishes that the file lacks, and no orders."""
+        orders = [*range(2 ** (rules.read(file, (CHOICE,)).wishes + 1)), 2**63, FULL]
+        for listed in [[], *([order] for order in orders), *map(list, product(orders, repeat=2))]:
+            self.fairing(file, listed, words_for(listed, 5))
+
     def reaching_in_full(self, file):
         """Every live set with every goal, and every list of up to three goals, by our own groups and by groups of one article."""
         job = rules.read(file, (CHOICE,))
@@ -693,7 +805,8 @@ class Beside:
         for change in (Change("order", None, {63}), Change("wishes", FULL, {63}), Change("clashes", 64, {63}), IN_TURN[-1]):
             self.save(file, change, 1)
         self.price(file, FULL)
-        self.tally["two faults"] += 9
+        self.fair(file, [FULL], 2)
+        self.tally["two faults"] += 10
 
     def names_in_full(self, file):
         for at in (*range(66), 2**32, 2**63, FULL):
@@ -721,10 +834,8 @@ def stated_prices(beside):
         file = repriced(A, prices)
         beside.same("price", (file, rate), (0, as_words(selection, total, tax)))
         beside.price(file, rate)
-    short = written(rules.read(P, (CHOICE,))._replace(articles=rules.read(P, (CHOICE,)).articles[:2]))
-    uncarried = written(Choice(2, {0, 1}, [Article({0}, set(), b"", 5), Article({0}, set(), b"")]))
     zero, cut, bit = P[:-4] + bytes(4), P[:-1], P[:11] + bytes([P[11] | 16]) + P[12:]
-    tries = [(short, 10_000, 14, 0), (uncarried, 0, 14, 0), (short, 10_001, 17, 0), (P, FULL, 17, 0), (F, 0, 1, 0)]
+    tries = [(SHORT, 10_000, 14, 0), (UNCARRIED, 0, 14, 0), (SHORT, 10_001, 17, 0), (P, FULL, 17, 0), (F, 0, 1, 0)]
     tries += [(zero, FULL, 5, len(P) - 4), (cut, FULL, 2, len(P) - 1), (bit, FULL, 4, 11), (P + b"\0", 0, 8, len(P))]
     for file, rate, reason, place in tries:
         beside.same("price", (file, rate), (reason, (place, 0, 0)))
@@ -734,6 +845,23 @@ def stated_prices(beside):
     beside.same("choose", (P, (1, [0, 0, 1]), (8, [3]), 0), (0, (4, 0)))
     beside.same("compare", (A, P), (0, (1, 0)))
     beside.same("save_order", (P, 1, (1, [MARK[1]] * 58)), (0, (58, 0)), [*P[:3], 1, *P[4:]])
+
+
+def stated_fairs(beside):
+    """Orders of which it is stated what is answered, each by itself and all together; and which fault of a fair is told."""
+    for file, answers in FAIRS:
+        orders, entries = list(answers), list(answers.values())
+        told = [word for entry in entries for word in entry]
+        for count in (len(told), len(told) + 2):
+            beside.same("fair", (file, (8, orders), (8, [MARK[8]] * count)), (0, (0, 0)), told + [MARK[8]] * (count - len(told)))
+        for order, entry in answers.items():
+            beside.same("fair", (file, (8, [order]), (8, [MARK[8]] * 3)), (0, (0, 0)), list(entry))
+        beside.same("fair", (file, (8, orders), (8, [MARK[8]] * (len(told) - 1))), (10, (0, 0)))
+        beside.fairing(file, orders, words_for(orders, 3))
+    for file, reason, place in ((A[:-1], 2, 45), (A + b"\0", 8, 46), (P[:-4] + bytes(4), 5, len(P) - 4), (F, 1, 0), (b"", 1, 0)):
+        for count in (0, 2, 3):
+            beside.same("fair", (file, (8, [FULL]), (8, [MARK[8]] * count)), (reason, (place, 0)))
+            beside.fair(file, [FULL], count)
 
 
 def stated(beside):
@@ -751,7 +879,9 @@ def stated(beside):
     faulty = [cut, longer, too_many, b"", b"B", N[:-1], F[:-1], M[:-1], P[:-1], P[:-4] + bytes(4)]
     for file in CHOICES:
         beside.choice_in_full(file)
+        beside.fair_in_full(file)
         beside.saving_in_full(file)
+    stated_fairs(beside)
     for file in FITTINGS:
         beside.fitting_in_full(file)
     beside.layers_in_full(written(full_fitting()))
@@ -834,6 +964,28 @@ def moved(beside):
                 beside.moving(written(job), article, price, drawn_rates(draw))
 
 
+def fairs(beside):
+    """Small files with every order by itself; these, drawn ones, and ones like a catalogue, with drawn orders; ones of 64 articles, with
+    64 wishes and with 63 of them, for one order more: what article 63 carries; and damaged ones."""
+    draw = random.Random(20261123)
+    small = [rules.read(file, (CHOICE,)) for file in small_choices()]
+    for job, order in product(small, (*range(8), FULL)):
+        beside.fairing(written(job), [order], [3])
+    few = [drawn_choice(draw) for _ in range(700)] + [priced(draw, crowded_choice(draw)) for _ in range(200)]
+    some_more = [grouped_choice(draw, draw.randint(11, 18), draw.randint(3, 5)) for _ in range(40)]
+    for job in small + few + some_more:
+        orders = drawn_orders(job, draw)
+        beside.fairing(written(job), orders, words_for(orders, draw.randint(3, 9)))
+    wide = [wide_choice(draw) for _ in range(10)]
+    for job in wide + list(map(without_63, wide)):
+        orders = [*drawn_orders(job, draw), number(job.articles[63].wishes)]
+        beside.fairing(written(job), orders, [3 * len(orders) + 2])
+    for job in [priced(draw, drawn_choice(draw)) for _ in range(10)]:
+        for file in damaged(written(job), draw):
+            orders = drawn_orders(job, draw)
+            beside.fair(file, orders, draw.choice(words_for(orders, 9)))
+
+
 def saved(beside):
     """Small files, drawn ones, and ones of 64 articles, with drawn changes; and the longest, with changes at the edge. Of the drawn
     ones every other has prices."""
@@ -859,6 +1011,7 @@ def run(beside):
     stated(beside)
     moved(beside)
     priced_files(beside)
+    fairs(beside)
     for file in [A, N, B, NOTHING, *small_choices(), *(written(drawn_choice(draw)) for _ in range(700))]:
         beside.choice(file, draw)
     for _ in range(150):

@@ -11,7 +11,7 @@ from run import demand
 PROMISES = "crates/demands/proofs/Promises.antt"
 LIB = "crates/demands/proofs/Lib.antt"
 # The files of theorems that are promised, each with the section of docs/TRACE.md that names them.
-THEOREMS = {"Demands": "The demands", "Saving": "The requests", "Bounds": "The requests", "Naming": "The requests", "Pricing": "The requests", "Moving": "The requests"}
+THEOREMS = {"Demands": "The demands", "Saving": "The requests", "Bounds": "The requests", "Naming": "The requests", "Pricing": "The requests", "Moving": "The requests", "Fairs": "The requests"}
 NAME = r"[^\s(){}.;,@\"]+"
 MARKS = r"((?:(?:pub|abbrev|unfoldable) )*)"
 SIGNATURE = re.compile(rf"{MARKS}({NAME}(?: {NAME})*) :(?:\s|$)")

@@ -38,10 +38,13 @@ static const uint8_t NAMED[] = {67, 8, 0, EIGHT(0), 4, 7, BUFETT(AS_ONE), 4, 5, 
     4, 5, 'a', 0xCC, 0x81, 0xCC, 0x80, 4, 3, 0xE2, 0x84, 0xAB, 4, 8, BUFETT(AS_TWO), 4, 2, 'u', 0xCC, 4, 32, FOUR_TIMES(FOUR_TIMES(0xCD, 0x84))};
 /* a step with nothing but the name "Büfett", with u and a mark */
 static const uint8_t NAMED_STEP[] = {70, 1, 0, 0, FOUR(0), FOUR(0), 8, 8, BUFETT(AS_TWO)};
-/* the articles 0 with wish 0; 1 with wishes 0 and 1, clashing with 0; 2 with wish 2; order {0, 1, 2} */
-static const uint8_t B[] = {67, 3, 3, EIGHT(7), 1, EIGHT(1), 3, EIGHT(3), EIGHT(1), 1, EIGHT(4)};
+/* the articles 0 with wish 0; 1 with wishes 0 and 1, clashing with 0; 2 with wish 2; order {0, 1, 2}, and the same with the order {0} */
+#define OF_B(order) 67, 3, 3, EIGHT(order), 1, EIGHT(1), 3, EIGHT(3), EIGHT(1), 1, EIGHT(4)
+static const uint8_t B[] = {OF_B(7)}, B_FEW[] = {OF_B(1)};
 /* the articles 0 and 1 of A without the others: both are in one group, and the order {0, 1} falls short */
 static const uint8_t APART[] = {67, 2, 2, EIGHT(3), 1, EIGHT(1), ONE};
+/* two articles with wish 0, in a group each, and none with wish 1; order empty */
+static const uint8_t UNCARRIED[] = {67, 2, 2, EIGHT(0), 1, EIGHT(1), 1, EIGHT(1)};
 /* the steps 0: needs 0, gives 1, takes 0; 1: needs 1, gives 2; 2: needs 1, gives 3; start {0}, goal {2, 3} */
 #define OF_F(horizon) 70, 3, 4, horizon, FOUR(1), FOUR(12), 7, FOUR(1), FOUR(2), FOUR(1), 3, FOUR(2), FOUR(4), 3, FOUR(2), FOUR(8)
 static const uint8_t F[] = {OF_F(3)}, F_NEAR[] = {OF_F(1)};
@@ -212,6 +215,35 @@ static int price(void)
     return seen;
 }
 
+/* the entries of a fair without a selection */
+#define OUTSIDE KITCHEN_ORDER_OUTSIDE_FILE, 0, 0
+#define NONE KITCHEN_NO_SELECTION, 0, 0
+
+static int fair(void)
+{
+    int seen = 0;
+    const uint64_t orders[] = {3, 0, 1, 2, 4, 3};
+    FILLS(kitchen_fair(SLICE(A), SLICE(orders), wide, 18, out), 0, 8, 0, 0, 4, 0, 0, 0, 0, 0, 1, 0, 0, 2, 0, OUTSIDE, 0, 4, 0);
+    FILLS(kitchen_fair(SLICE(A), orders, 1, wide, MOST, out), 0, 8, 0, 0, 4, 0);
+    FILLS(kitchen_fair(SLICE(A), SLICE(NUMBERS(7, (uint64_t)1 << 63, UINT64_MAX)), wide, 11, out), 0, 8, 0, OUTSIDE, OUTSIDE, OUTSIDE);
+    FILLS(kitchen_fair(SLICE(P), SLICE(NUMBERS(3, 2)), wide, 6, out), 0, 8, 0, 0, 4, 0, 0, 2, 0); /* prices play no part */
+    FILLS(kitchen_fair(SLICE(B), SLICE(NUMBERS(7, 2, 5, 8)), wide, 14, out), 0, 8, 0, 0, 6, 1, 0, 2, 1, 0, 5, 0, OUTSIDE);
+    FILLS(kitchen_fair(SLICE(B_FEW), SLICE(NUMBERS(7, 7, 1)), wide, 9, out), 0, 8, 0, 0, 6, 1, 0, 6, 1, 0, 1, 0);
+    FILLS(kitchen_fair(SLICE(APART), SLICE(NUMBERS(1, 3, 2, 3)), wide, 12, out), 0, 8, 0, 0, 1, 2, NONE, 0, 2, 1, NONE);
+    FILLS(kitchen_fair(SLICE(UNCARRIED), SLICE(NUMBERS(3, 1)), wide, 6, out), 0, 8, 0, NONE, 0, 1, 0); /* where the choice has 14 at 1 */
+    FILLS(kitchen_fair(SLICE(BARE), SLICE(NUMBERS(0, 1)), wide, 8, out), 0, 8, 0, 0, 0, 0, OUTSIDE);
+    GIVES(kitchen_fair(SLICE(A), NULL, 0, wide, MOST, out), 0, 0, 0);
+    GIVES(kitchen_fair(SLICE(A), NULL, 0, NULL, 0, out), 0, 0, 0);
+    GIVES(kitchen_fair(SLICE(A), SLICE(orders), wide, 17, out), KITCHEN_SHORT_BUFFER, 0, 0);
+    GIVES(kitchen_fair(SLICE(A), orders, 1, NULL, 0, out), KITCHEN_SHORT_BUFFER, 0, 0);
+    GIVES(kitchen_fair(A, sizeof A - 1, orders, 1, wide, 2, out), KITCHEN_ENDS_EARLY, 45, 0);
+    GIVES(kitchen_fair(SLICE(A_LONGER), orders, 1, wide, MOST, out), KITCHEN_TRAILING_BYTES, 46, 0);
+    GIVES(kitchen_fair(SLICE(ABSENT), orders, 1, wide, MOST, out), KITCHEN_ABSENT_MEMBER, 3, 0); /* the file's own order is tested, too */
+    GIVES(kitchen_fair(SLICE(F), NULL, 0, wide, MOST, out), KITCHEN_WRONG_KIND, 0, 0);
+    GIVES(kitchen_fair(NULL, 0, orders, 1, wide, MOST, out), KITCHEN_WRONG_KIND, 0, 0);
+    return seen;
+}
+
 static int fact_layer(void)
 {
     int seen = 0;
@@ -358,6 +390,7 @@ int main(void)
     printf("kitchen_pass: %d, ", pass());
     printf("kitchen_choose: %d, ", choose());
     printf("kitchen_price: %d, ", price());
+    printf("kitchen_fair: %d, ", fair());
     printf("kitchen_fact_layer: %d, ", fact_layer());
     printf("kitchen_round_layer: %d, ", round_layer());
     printf("kitchen_plan: %d, ", plan());

@@ -265,9 +265,9 @@ def one_set_of_names(functions, shared):
 
 
 def named_numbers(text, shared):
-    """The reasons of the header go from 0 to 17, and its limits are those of the rules and of the library."""
+    """The reasons of the header go from 0 to 18, and its limits are those of the rules and of the library."""
     reasons, limits = (dict(re.findall(r"^    KITCHEN_(\w+) = (\d+)", block, re.M)) for block in re.findall(r"^enum \{\n(.*?)^\};", text, re.M | re.S))
-    demand(list(map(int, reasons.values())) == list(range(18)), f"the header's reasons are {reasons}")
+    demand(list(map(int, reasons.values())) == list(range(19)), f"the header's reasons are {reasons}")
     limits = {name: int(value) for name, value in limits.items()}
     name_field, price = 1 + limits["NAME_BYTES"], 4
     longest = (11 + limits["ARTICLES"] * (1 + 2 * 8 + name_field + price), 12 + limits["STEPS"] * (1 + 3 * 4 + name_field))
@@ -282,11 +282,15 @@ def named_numbers(text, shared):
     for rate, reason in ((limits["RATE"], 0), (limits["RATE"] + 1, 17)):
         refused = library.kitchen_price(nothing, ctypes.c_size_t(len(nothing)), ctypes.c_uint64(rate), three)
         demand(refused == reason, f"RATE {rate}: refused {refused}")
+    orders, lent = (ctypes.c_uint64 * 2)(), (ctypes.c_uint64 * (2 * limits["ENTRY_WORDS"]))()
+    for words, reason in ((len(lent), 0), (len(lent) - 1, 10)):
+        refused = library.kitchen_fair(nothing, ctypes.c_size_t(len(nothing)), orders, ctypes.c_size_t(2), lent, ctypes.c_size_t(words), out)
+        demand(refused == reason, f"ENTRY_WORDS, {words} for two orders: refused {refused}")
     return len(reasons) + len(limits)
 
 
 def header():
-    """include/kitchen.h declares the functions of capi with their types and no others, has its number, its reasons and its limits, and is plain C; the two programs in it run, and its lines that price and that save do."""
+    """include/kitchen.h declares the functions of capi with their types and no others, has its number, its reasons and its limits, and is plain C; the two programs in it run, and its lines that price, that answer a fair and that save do."""
     text, number = interface()
     capi = (ROOT / "crates" / "capi" / "src" / "lib.rt").read_text()
     functions = list(c_interface.declarations(text))
@@ -297,15 +301,16 @@ def header():
     one_number(number, capi, shared)
     named = named_numbers(text, shared)
     run(["cc", "-std=c99", *STRICT, "-fsyntax-only", "-x", "c", "include/kitchen.h"])
-    in_c, in_python, prices, saves = shown(text)
+    in_c, in_python, prices, fair, saves = shown(text)
     (ROOT / "target" / "first.c").write_text(in_c)
     (ROOT / "target" / "first.py").write_text(in_python)
     run(["cc", "-std=c99", *STRICT, "target/first.c", archive, "-o", "target/first"])
     first_program(["target/first"])
     first_program([sys.executable, "-B", "target/first.py"])
     pricing_lines(prices, archive)
+    fair_lines(fair, archive)
     saving_lines(saves, archive)
-    return len(functions) + named + 4
+    return len(functions) + named + 5
 
 
 def every_call():
@@ -319,10 +324,11 @@ def every_call():
 
 
 def shown(text):
-    """The programs in C and in Python in the header's comment, after the command that builds the library; and last the lines in C that price, and those that save."""
+    """The programs in C and in Python in the header's comment, after the command that builds the library; and last the lines in C that price, those that answer a fair, and those that save."""
     blocks = [re.sub(r"^ \*     ", "", block, flags=re.M) for block in re.findall(r"(?:^ \*     .*\n)+", text, re.M)]
-    found = len(blocks) == 5 and blocks[0] == "tools/library\n" and "kitchen_price" in blocks[3] and "kitchen_save_order" in blocks[4]
-    demand(found, "the header shows how to build, a program in C, one in Python, how to price and how to save")
+    calls = ("kitchen_choose", "kitchen_choose", "kitchen_price", "kitchen_fair", "kitchen_save_order")
+    found = len(blocks) == 6 and blocks[0] == "tools/library\n" and all(call in block for call, block in zip(calls, blocks[1:]))
+    demand(found, "the header shows how to build, a program in C, one in Python, how to price, how to answer a fair and how to save")
     return blocks[1:]
 
 
@@ -352,12 +358,33 @@ int main(void)
 """
 
 
+FAIR = """#include "kitchen.h"
+#include <inttypes.h>
+#include <stdio.h>
+int main(void)
+{
+    uint8_t file[KITCHEN_LONGEST + 1];
+    uint64_t out[2];
+    size_t len = fread(file, 1, sizeof file, stdin);
+%s    return 0;
+}
+"""
+
+
 def pricing_lines(lines, archive):
     """The header's lines that price, in a program around them, tell the total and the tax of the sample with prices."""
     (ROOT / "target" / "prices.c").write_text(PRICES % textwrap.indent(lines, "    "))
     run(["cc", "-std=c99", *STRICT, "target/prices.c", archive, "-o", "target/prices"])
     printed = fed(["target/prices"], sample("prices"))
     demand(printed == "164450 and 31246\n", f"the header's lines that price print {printed}")
+
+
+def fair_lines(lines, archive):
+    """The header's lines that answer a fair, in a program around them, tell of A a selection, and an order with a wish that it lacks."""
+    (ROOT / "target" / "fair.c").write_text(FAIR % textwrap.indent(lines, "    "))
+    run(["cc", "-std=c99", *STRICT, "target/fair.c", archive, "-o", "target/fair"])
+    printed = fed(["target/fair"], sample("A"))
+    demand(printed == "status 0, selection 4\nstatus 18, selection 0\n", f"the header's lines that answer a fair print {printed}")
 
 
 def saving_lines(lines, archive):
@@ -500,7 +527,7 @@ def unpacked(tarball):
 
 
 def dist():
-    """make dist gives the same bytes twice; unpacked, its sums hold, its program answers F, its tool changes A, and the C example is built against its library."""
+    """make dist gives the same bytes twice; unpacked, its sums hold, its program answers F, its tool changes A and answers the sample of a fair, and the C example is built against its library."""
     built_library()
     tarball = f"target/dist/kitchen-{interface()[1]}.tar.gz"
     demand(packed(tarball) == packed(tarball), "make dist made two different tarballs")
@@ -518,7 +545,9 @@ def dist():
     run([f"{folder}/tools/job", "change", "target/A.job", "order", "#1", "-o", "target/A_changed.job"])
     shown = run([f"{folder}/tools/job", "show", "target/A_changed.job"])
     demand("The order has the wish 1." in shown, f"tools/job of the tarball changed A to: {shown}")
-    return len(wanted) + 3 + example(["target/example_unpacked"])
+    told = run([f"{folder}/tools/job", "fair", f"{folder}/jobs/kitchen.txt", f"{folder}/jobs/fair.orders"], status=3)  # one order has no kitchen
+    demand("6 orders; with a kitchen: 4; no such kitchen: 1; " in told, f"tools/job of the tarball tells of a fair: {told}")
+    return len(wanted) + 4 + example(["target/example_unpacked"])
 
 
 def beside():
@@ -529,7 +558,7 @@ def beside():
 
 def faults():
     """Each mistake that the second program makes on purpose is found."""
-    planted = range(1, 27)
+    planted = range(1, 34)
     for fault in planted:
         printed = run([sys.executable, "-B", "reference/beside.py", built_library()[1], "--fault", str(fault)], status=1)
         demand(re.search(r"^the second program .*; after \d+ comparisons: ", printed), f"fault {fault}: {printed}")

@@ -36,7 +36,7 @@ import names as namings  # noqa: E402
 import reader  # noqa: E402
 import rules  # noqa: E402
 import tool  # noqa: E402
-from showroom import advising, asking, changing, commands, telling, texts  # noqa: E402
+from showroom import advising, asking, changing, commands, fairs, telling, texts  # noqa: E402
 from showroom import rules as trying  # noqa: E402
 from showroom.changing import Change  # noqa: E402
 from showroom.files import job_text  # noqa: E402
@@ -449,7 +449,8 @@ def misuse(tally):
         ["advise", "--json", one], ["advise", "--bound", plan], ["ask", "--bound", one], ["page", "--bound", one],
         ["advise", one, "--bound", "2"], ["advise", "--bound=2", one], ["ask", "--rate", "19", plan], ["ask", one, plan, "--rate", "19"],
         ["ask", "--rate", "x", one], ["ask", "--rate", "100.01", one], ["ask", "--rate", "-1", one], ["advise", "--rate", "19", one],
-        ["page", "--rate", "19", one], ["ask", "--rat", "19", one], ["ask", one, "--rate"],
+        ["page", "--rate", "19", one], ["ask", "--rat", "19", one], ["ask", one, "--rate"], ["fair", one], ["fair", plan, one],
+        ["fair", one, one, one], ["fair", "-", "-"], ["fair", one, one, "--order", "no hood"], ["fair", one, one, "--jso"],
     ):  # fmt: skip
         status, output, errors = called(*arguments)
         equal((status, output), (2, ""), f"{arguments}: misuse, {errors}")
@@ -461,7 +462,7 @@ def misuse(tally):
 
 def unwritable(tally):
     """An answer that cannot be written is none."""
-    for command in ("ask jobs/A.txt", "ask jobs/A.txt jobs/F.txt", "ask --json jobs/impossible.txt", "advise jobs/A.txt"):
+    for command in ("ask jobs/A.txt", "ask jobs/A.txt jobs/F.txt", "ask --json jobs/impossible.txt", "advise jobs/A.txt", "fair jobs/kitchen.txt jobs/fair.orders"):
         for stream, trouble in ((">/dev/full", "No space left on device"), (">&-", "Bad file descriptor")):
             status, _, errors = ran(["sh", "-c", f"tools/job {command} {stream}"])
             equal((status, errors), (1, f"standard output: {trouble}\n"), f"{command} {stream}")
@@ -613,7 +614,7 @@ def numbered(rounds):
 
 def lies_of_any(right):
     """Outputs that are no answer to anything, or to no job of this kind."""
-    yield from (f"refused {number} at 0\n".encode() for number in (0, 1, 2, 3, 8, 9, 10, 13, 16, 17))
+    yield from (f"refused {number} at 0\n".encode() for number in (0, 1, 2, 3, 8, 9, 10, 13, 16, 17, 18))
     yield from (b"", b"\n", b"\0", b"\xff\xfe\xfd", b"junk\n", b"x" * 100_000, b"chosen\n", b"rounds\n", b"none\n")
     yield from (right.replace(b"\n", b"\r\n"), right + right, right + b"\n", b"\n" + right, b" " + right, right.upper())
     yield from (right.replace(b"\n", b" \n", 1), right.replace(b"\n", b"\0\n"), right.replace(b"\n", b"", 1))
@@ -1641,7 +1642,7 @@ def other_answers_to(file, right):
     yield reader.written(job._replace(articles=job.articles[:-1]))
     yield reader.written(job._replace(articles=[article._replace(name=b"x") for article in job.articles]))
     yield from (reader.written(draws.priced(None, job, lambda draw, price=price: price)) for price in (0, 1))
-    yield from (kitchen.Refused(number, place) for number in range(18) for place in (0, 3))
+    yield from (kitchen.Refused(number, place) for number in range(19) for place in (0, 3))
 
 
 def lies_of_the_library(tally, folder):
@@ -1677,6 +1678,247 @@ def no_library_to_change(tally, folder):
         equal((tree / "new.job").exists(), not phrase, f"{label}: whether something is written")
         tally["libraries not used"] += bool(phrase)
     equal((tree / "new.job").read_bytes(), tool.second_saved(file_of("A"), "order", {0}), "what the usable one gives")
+
+
+# ---- the orders of a fair
+
+
+def told_entry(status, articles, aside):
+    """Three words of an entry as the module tells them."""
+    none = {14: kitchen.NoSelection(None), 18: kitchen.OrderOutsideFile}
+    return none[status] if status else kitchen.Selection(rules.of(articles), rules.of(aside))
+
+
+def second_entries(file, orders):
+    """The second program's answers to a list of orders."""
+    words = rules.fair(file, orders, [0] * (3 * len(orders)))
+    return [told_entry(*words[at : at + 3]) for at in range(0, len(words), 3)]
+
+
+def drawn_orders(draw, wishes, count):
+    """Orders of wishes that there are, some twice, some without a wish, and some with a wish too many."""
+    found = [draws.some(draw, min(64, wishes + (draw.random() < 0.2)), draw.choice([0.2, 0.5, 0.8])) for _ in range(count)]
+    return [draw.choice(found) if draw.random() < 0.2 else order for order in found]
+
+
+def drawn_list(draw, names, orders):
+    """Orders as lines, with labels or without, by name or by number, with comments and empty lines; and what they mean."""
+    lines, meant = [], []
+    for order in orders:
+        lines += draw.choice([[], [], [""], ["# no order"]])
+        label, shown = draw.choice([(None, ""), (f"Kunde {len(lines)}", f"Kunde {len(lines)}: "), (f"A, {len(lines)}", f'"A, {len(lines)}" :')])
+        items = [names[wish] if wish < len(names) and draw.random() < 0.6 else f"#{wish}" for wish in draw.sample(sorted(order), len(order))]
+        if not items and label is None:
+            label, shown = "none", "none:"
+        lines.append(shown + ", ".join(items))
+        meant.append(fairs.Order(len(lines), None if label is None else label.encode(), order))
+    return "".join(f"{line}\n" for line in lines), meant
+
+
+def expected_row(text, order, answer):
+    """The cells of a row of the table."""
+    head = [str(order.line), "" if order.label is None else order.label.decode()]
+    if isinstance(answer, kitchen.NoSelection):
+        return [*head, "no such kitchen", ""]
+    if answer is kitchen.OrderOutsideFile:
+        lacks = [f"#{wish}" for wish in sorted(order.wishes) if wish >= text.job.members]
+        return [*head, "the catalogue has no wish " + ", ".join(lacks[:-1]) + " or " * (len(lacks) > 1) + lacks[-1], ""]
+    chosen, aside = ("; ".join(record_name(text.job, number) for number in sorted(articles)) for articles in answer)
+    return [*head, chosen or "(no article is needed)", aside or "-"]
+
+
+def expected_data(text, path, order, answer):
+    """An order's line of JSON."""
+    names = [name.decode() for name in text.names]
+    found = {"text": str(path), "line": order.line, "label": order.label and order.label.decode()}
+    found["order"] = [names[wish] if wish < len(names) else f"#{wish}" for wish in sorted(order.wishes)]
+    if isinstance(answer, kitchen.NoSelection):
+        return found | {"answer": "no such kitchen"}
+    if answer is kitchen.OrderOutsideFile:
+        return found | {"answer": "no such wish", "lacks": sorted(wish for wish in order.wishes if wish >= len(names))}
+    data = lambda number: {"number": number, "name": text.job.records[number].name.decode() or None}
+    wishes = lambda number: [names[wish] for wish in sorted(text.job.records[number].sets[0] & order.wishes)]
+    articles = [data(number) | {"wishes": wishes(number)} for number in sorted(answer.articles)]
+    return found | {"answer": "kitchen", "articles": articles, "set_aside": [data(number) for number in sorted(answer.aside)]}
+
+
+def table_told(text, catalogue, meant, answers):
+    """The status, and the table in cells with the lines after it."""
+    rows = [["line", "order", "kitchen", "set aside"], *(expected_row(text, order, answer) for order, answer in zip(meant, answers))]
+    rows = rows if any(order.label for order in meant) else [[row[0], *row[2:]] for row in rows]
+    none, outside = answers.count(kitchen.NoSelection(None)), answers.count(kitchen.OrderOutsideFile)
+    sorts = f"with a kitchen: {len(answers) - none - outside}; no such kitchen: {none}; with a wish that the catalogue lacks: {outside}"
+    hint = [f"`tools/job advise {catalogue} --order LIST` says why there is none."] if none and catalogue else []
+    last = ["", f"{len(meant)} order{'s' * (len(meant) != 1)}; {sorts}.", *hint]
+    return (3 if none or outside else 0, rows + [[line] for line in last]) if meant else (0, [["The list has no order."]])
+
+
+def in_cells(output):
+    return [[cell.strip() for cell in re.split(r" \|(?: |$)", line)] for line in output.splitlines()]
+
+
+@section(
+    "fair", "kitchens", "no kitchens", "no such wishes", "no wishes", "set aside", "as kitchen chooses", "tables", "lines of json", "job files",
+    "long lists", "from standard input", "the sample", "refused files", "faulty lists", "lies", "honest", "libraries that are not used"
+)  # fmt: skip
+def fair(tally, folder):
+    draw = random.Random(37)
+    jobs = [drawn_choice(draw, 7, 6) for _ in range(80)] + [tight_choice(draw, 7, 6) for _ in range(40)]
+    jobs += [with_prices(draw, drawn_choice(draw, 6, 5)) for _ in range(20)] + [renamed(draw, ours_of(draws.wide_choice(draw))) for _ in range(2)]
+    for number, job in enumerate(jobs):
+        text = text_of(job)
+        names = [name.decode() for name in text.names]
+        listed, meant = drawn_list(draw, names, drawn_orders(draw, job.members, draw.randrange(7)))
+        answers = second_entries(kitchen.written(job), [order.wishes for order in meant])
+        label = f"fair {number}, {kitchen.written(job).hex()}\n{listed}"
+        equal(fairs.orders_in(listed.encode(), fairs.from_text(text)), meant, label)
+        equal(fairs.asked(fairs.from_text(text), meant), answers, label)
+        what_came(tally, job, meant, answers, label)
+        if number % 4 == 0:
+            by_command(tally, folder, text, listed, meant, answers, number, label)
+    sample_fair(tally)
+    long_fair(tally)
+    no_fair(tally, folder)
+    lies_about_orders(tally)
+    fair_libraries(tally, folder)
+
+
+def what_came(tally, job, meant, answers, label):
+    """Each answer is what kitchen chooses if that is the order of the file; it is asked now and then."""
+    for order, answer in zip(meant, answers):
+        tally["no wishes"] += not order.wishes
+        tally["kitchens"] += isinstance(answer, kitchen.Selection)
+        tally["no kitchens"] += isinstance(answer, kitchen.NoSelection)
+        tally["no such wishes"] += answer is kitchen.OrderOutsideFile
+        tally["set aside"] += isinstance(answer, kitchen.Selection) and bool(answer.aside)
+    for order, answer in list(zip(meant, answers))[:2]:
+        if answer is not kitchen.OrderOutsideFile:
+            asked = asking.asked(advising.ordered(job, order.wishes))
+            equal(kitchen.NoSelection(None) if isinstance(asked, kitchen.NoSelection) else asked, answer, f"{label}: as kitchen chooses")
+            tally["as kitchen chooses"] += 1
+
+
+def by_command(tally, folder, text, listed, meant, answers, number, label):
+    """The table and the lines of JSON of a text, and of its job file, which has numbers in place of the names of wishes."""
+    path, orders, file = folder / "catalogue.txt", folder / "list.orders", folder / "catalogue.job"
+    path.write_text(job_text(text.job))
+    orders.write_text(listed)
+    file.write_bytes(kitchen.written(text.job))
+    expected = table_told(text, path, meant, answers)
+    status, output, errors = ran([TOOL, "fair", path, orders]) if number % 32 == 0 else called("fair", path, orders)
+    equal((status, in_cells(output)), expected, f"{label}: in words, {errors}")
+    lines = [expected_data(text, orders, order, answer) for order, answer in zip(meant, answers)]
+    status, output, _ = called("fair", "--json", path, orders)
+    equal((status, [json.loads(line) for line in output.splitlines()]), (expected[0], lines), f"{label}: as JSON")
+    status, output, errors = called("fair", file, "-", stdin=listed.encode())
+    equal((status, in_cells(output)), table_told(text, None, meant, answers), f"{label}: of a job file, {errors}")
+    status, output, _ = called("fair", "-", orders, "--json", stdin=file.read_bytes())
+    equal((status, [json.loads(line) for line in output.splitlines()]), (expected[0], lines), f"{label}: of a job file, as JSON")
+    tally["tables"] += 2
+    tally["lines of json"] += 2 * len(lines)
+    tally["job files"] += 1
+    tally["from standard input"] += 2
+
+
+def sample_fair(tally):
+    """The sample of a list, beside the second program and beside what is told of each of its orders alone."""
+    path, orders = sample("kitchen"), ROOT / "jobs" / "fair.orders"
+    text = stated(path.read_bytes())
+    meant = fairs.orders_in(orders.read_bytes(), fairs.from_text(text))
+    answers = second_entries(kitchen.written(text.job), [order.wishes for order in meant])
+    equal(sorted({type(answer).__name__ for answer in answers}), ["Answer", "NoSelection", "Selection"], "the sample has answers of each sort")
+    status, output, errors = ran([TOOL, "fair", "jobs/kitchen.txt", "jobs/fair.orders"])
+    equal((status, in_cells(output), errors), (*table_told(text, "jobs/kitchen.txt", meant, answers), ""), "the sample of a list")
+    for line in ran([TOOL, "fair", "--json", path, orders])[1].splitlines():
+        told = json.loads(line)
+        if told["answer"] != "no such wish":
+            alone = json.loads(called("ask", "--json", "--order", ", ".join(told["order"]), path)[1])
+            same = [told.get(key) == alone.get(key) for key in ("answer", "articles", "set_aside")]
+            check(all(same), f"an order of the sample, and the same alone: {told}, {alone}")
+        tally["the sample"] += 1
+
+
+def long_fair(tally):
+    """Lists that are given to the library in shares. Of a table that differs the first row that does is shown."""
+    draw, path = random.Random(41), sample("impossible")
+    text, kinds = stated(path.read_bytes()), [rules.of(number) for number in range(2**5)]
+    known = second_entries(kitchen.written(text.job), kinds)
+    for count in (fairs.SHARE, fairs.SHARE + 1, 2 * fairs.SHARE + 3):
+        listed, meant = drawn_list(draw, [name.decode() for name in text.names], draw.choices(kinds, k=count))
+        answers = [known[rules.number(order.wishes)] for order in meant]
+        status, output, errors = called("fair", path, "-", stdin=listed.encode())
+        expected, rows = table_told(text, path, meant, answers), in_cells(output)
+        equal((status, len(rows), errors), (expected[0], len(expected[1]), ""), f"a list of {count} orders")
+        first = next((pair for pair in zip(rows, expected[1]) if pair[0] != pair[1]), None)
+        equal(first, None, f"the first row that differs of a list of {count} orders")
+        tally["long lists"] += 1
+
+
+def no_fair(tally, folder):
+    """A job file that is refused, by the library itself, and lists that are at fault: nothing is told."""
+    path, faulty = folder / "refused.job", folder / "faulty.orders"
+    faulty.write_text("bogus\n")
+    for file in (file_of("F"), file_of("A")[:-1], file_of("A") + b"\0", b"C", b"F\0", b"C\xff", file_of("prices")[:-4] + bytes(4)):
+        path.write_bytes(file)
+        refusal = reader.outcome(rules.fair, file, [], [])
+        status, output, errors = called("fair", path, faulty)
+        check((status, output) == (1, "") and errors.startswith(f"{path}: {refusal}\nReason "), f"{file.hex()}: {status}, {output}{errors}")
+        tally["refused files"] += 1
+    for listed, phrase in (("bogus", ":1: no wish is named"), ("#0\n#64", ":2: #64 is too large"), ("no hood: #0", ":1: \"no hood\" is the name")):
+        faulty.write_text(listed)
+        status, output, errors = called("fair", sample("kitchen"), faulty)
+        check((status, output) == (1, "") and errors.startswith(f"{faulty}{phrase}"), f"{listed!r}: {status}, {output}{errors}")
+        tally["faulty lists"] += 1
+
+
+def lies_about_orders(tally):
+    """A library that answers anything else, or refuses, is not believed: status 1, and nothing is told."""
+    true, draw = kitchen.Library.fair, random.Random(47)
+    try:
+        for name in ("A", "prices"):
+            job = reader.read(file_of(name))
+            orders = [job.order, set(), {0}, {1}, {job.wishes}]
+            listed = "".join("M: " + ", ".join(f"#{wish}" for wish in sorted(order)) + "\n" for order in orders)
+            right = second_entries(file_of(name), orders)
+            told = called("fair", sample(name), "-", stdin=listed.encode())
+            for answers in wrong_lists(draw, job, orders, right):
+                kitchen.Library.fair = lambda library, *given: tool.Fair(answers).fair(*given)
+                for call in (["fair"], ["fair", "--json"]):
+                    status, output, errors = called(*call, sample(name), "-", stdin=listed.encode())
+                    said = errors.startswith(("this cannot be what the library answers: ", "the orders cannot be answered: "))
+                    empty = [json.loads(line)["answer"] for line in output.splitlines()] == ["error"] if "--json" in call else not output
+                    check(status == 1 and said and empty, f"{answers!r}: {status}, {output}{errors}")
+                tally["lies"] += 1
+            kitchen.Library.fair = lambda library, *given: tool.Fair(right).fair(*given)
+            equal(called("fair", sample(name), "-", stdin=listed.encode()), told, f"honest, {name}")
+            tally["honest"] += 1
+            kitchen.Library.fair = true
+    finally:
+        kitchen.Library.fair = true
+
+
+def wrong_lists(draw, job, orders, right):
+    """Answers to a list, of which one is another, or one is missing or too many; and refusals."""
+    for at, order in enumerate(orders):
+        yield from ([*right[:at], answer, *right[at + 1 :]] for answer in tool.wrong_answers(draw, job, order, right[at]))
+    yield from (right[:-1], [*right, right[-1]], [])
+    yield from (kitchen.Refused(number, place) for number in (1, 6, 10, 14, 18) for place in (0, 3))
+    yield kitchen.Unusable("it is not usable")
+
+
+def fair_libraries(tally, folder):
+    """Without a library of this version nothing is told; kitchen is not needed."""
+    tree = copied_tree(folder)
+    told = ran(["tools/job", "fair", "jobs/kitchen.txt", "jobs/fair.orders"])
+    for label, phrase in put_libraries(tree):
+        found = ran(["tools/job", "fair", "jobs/kitchen.txt", "jobs/fair.orders"], cwd=tree)
+        if not phrase:
+            equal(found, told, label)
+            continue
+        status, output, errors = found
+        said = errors.startswith("the orders cannot be answered: ") and phrase in errors
+        check((status, output) == (1, "") and said, f"{label}: {status}\n{output}{errors}")
+        tally["libraries that are not used"] += 1
 
 
 # ---- the module
@@ -1749,6 +1991,24 @@ class Beside:
         if isinstance(answer, kitchen.Priced):
             self.tally["totals below zero" if answer.total < 0 else "totals of zero or more"] += 1
             self.tally["taxes below zero"] += answer.tax < 0
+
+    def fair(self, file, orders):
+        """A list of orders. Each answer is also that of the module's own choice, on the file that is saved with that order."""
+        answers = self.same(f"fair {orders} {file.hex()}", lambda: self.ours.fair(file, orders), lambda: second_entries(file, orders))
+        for order, answer in zip(orders, answers) if isinstance(answers, list) else ():
+            self.tally["entries"] += 1
+            self.tally["entries without a selection"] += isinstance(answer, kitchen.NoSelection)
+            self.tally["entries with a wish that is not there"] += answer is kitchen.OrderOutsideFile
+            self.tally["entries that set aside"] += isinstance(answer, kitchen.Selection) and bool(answer.aside)
+            equal(self.chosen_alone(file, order), answer, f"fair {order} {file.hex()}, and the choice alone")
+
+    def chosen_alone(self, file, order):
+        try:
+            found = self.ours.choose(self.ours.save_order(file, order))
+        except kitchen.Refused as refusal:
+            equal((refusal.number, refusal.place), (6, 3), f"{file.hex()} with the order {order}")
+            return kitchen.OrderOutsideFile
+        return kitchen.NoSelection(None) if isinstance(found, kitchen.NoSelection) else found
 
     def partition(self, file):
         second = lambda: bytes(rules.own_groups(rules.read(file, (reader.CHOICE,))))
@@ -1824,6 +2084,8 @@ class Beside:
         self.bound(file, set(), [0] * 64)
         self.price(file, 1900)
         self.price(file, 10_001)
+        self.fair(file, [])
+        self.fair(file, [{0}, set(), {63}, {0}])
         self.selections(file)
         self.plan(file)
         self.layers(file, 0)
@@ -1841,6 +2103,7 @@ class Beside:
     "same_name", "equal and found", "unequal", "found by other bytes", "the lowest of several", "save_order", "save_wishes", "save_clashes", "save_name", "unusable", "built", "answers NoSelection", "answers NoPlan",
     "answers None", "goal 0 falls short", "goal 1 falls short", *(f"none of {count} falls short" for count in range(3)),
     "passes that fall short", "passes that do not fall short", "price", "totals below zero", "totals of zero or more", "taxes below zero",
+    "fair", "entries", "entries without a selection", "entries with a wish that is not there", "entries that set aside", "fairs in one call",
     *(f"refused {number}" for number in (*range(1, 14), 17))
 )  # fmt: skip
 def module(tally, folder):
@@ -1860,6 +2123,7 @@ def module(tally, folder):
         name_calls(beside, draw)
     for _ in range(300):
         price_calls(beside, draws.priced(draw, draws.drawn_choice(draw)), draw)
+    fair_calls(beside)
     past_the_words(tally, beside.ours)
     built(tally, draw)
     shown_in_the_module(tally)
@@ -1899,6 +2163,23 @@ def price_calls(beside, job, draw):
     beside.names(file, range(len(job.articles) + 1), [article.name for article in job.articles])
     beside.save(file, "order", None, draws.some(draw, job.wishes, 0.5))
     beside.save(file, "name", 0, draws.drawn_name(draw))
+
+
+def fair_calls(beside):
+    """Lists of orders for drawn files, by a source of their own; each list is one call."""
+    draw = random.Random(53)
+    for job in [*(draws.drawn_choice(draw) for _ in range(300)), *(draws.wide_choice(draw) for _ in range(3)), draws.priced(draw, draws.drawn_choice(draw))]:
+        beside.fair(reader.written(job), [job.order, *drawn_orders(draw, job.wishes, draw.randrange(9))])
+    calls, true = [], beside.ours.call
+    beside.ours.call = lambda name, *given, **options: calls.append(name) or true(name, *given, **options)
+    try:
+        for count in (0, 1, 1000):
+            equal(beside.ours.fair(reader.A, iter([{0, 1}] * count)), [kitchen.Selection({2}, set())] * count, f"{count} orders of A")
+            beside.tally["fairs in one call"] += calls == ["fair"]
+            calls.clear()
+    finally:
+        del beside.ours.call
+    equal(beside.tally["fairs in one call"], 3, "a list of orders is one call")
 
 
 def save_calls(beside, file, draw):
@@ -1961,6 +2242,10 @@ def past_the_words(tally, library):
         "a rate past the words": lambda: library.price(a, 2**64),
         "a rate below 0": lambda: library.price(a, -1),
         "a file of a price, as text": lambda: library.price(a.decode("latin-1"), 0),
+        "an order of a fair": lambda: library.fair(a, [{64}]),
+        "a later order of a fair": lambda: library.fair(a, [{0}, {1, 70}]),
+        "a file of a fair, as text": lambda: library.fair(a.decode("latin-1"), []),
+        "a number as the file of a fair": lambda: library.fair(7, [{0}]),
         "a price past its bytes": lambda: kitchen.choice(0, (), [article(price=2**31)]),
         "a price below its bytes": lambda: kitchen.choice(0, (), [article(price=-(2**31) - 1)]),
         "a price that is no number of cents": lambda: kitchen.choice(0, (), [article(price=0.5)]),
@@ -2082,8 +2367,27 @@ def tax_for_total(text, rate, priced):
     return true_told(text, rate, priced._replace(total=priced.tax))
 
 
+def first_share_again(catalogue, orders, done=lambda count: None):
+    """Each share of a list is answered as the first."""
+    answers = true_asked(catalogue, orders[: fairs.SHARE], done)
+    return (answers * len(orders))[: len(orders)]
+
+
+def backwards(library, file, orders):
+    return true_fair(library, file, orders)[::-1]
+
+
+def none_for_outside(status, articles, aside):
+    return true_entry(14 if status == 18 else status, articles, aside)
+
+
+def aside_for_chosen(catalogue, called, order, answer):
+    return true_row(catalogue, called, order, kitchen.Selection(*answer[::-1]) if isinstance(answer, kitchen.Selection) else answer)
+
+
 true_conflict, true_further, true_told = advising.conflict, asking.further, telling.cheapest_told
 true_choose, true_name = kitchen.Library.choose, kitchen.Library.save_name
+true_fair, true_entry, true_asked, true_row = kitchen.Library.fair, kitchen.entry, fairs.asked, fairs.row
 # What errs, where, what is put in its place, and the section that has to find it.
 FAULTS = {
     1: ("in_every answers what in_some does", advising, "in_every", advising.in_some, "advise"),
@@ -2115,6 +2419,11 @@ FAULTS = {
     25: ("prices of a text are lost", texts.Draft, "price", lambda draft, entry: 0, "price"),
     26: ("the tax is told in place of the total", telling, "cheapest_told", tax_for_total, "price"),
     27: ("what a change of one price can do is told without prices, too", telling, "has_prices", lambda job: True, "advise"),
+    28: ("what the library says of an order is not tried", fairs, "try_entry", lambda job, order, answer: None, "fair"),
+    29: ("each share of a list is answered as the first", fairs, "asked", first_share_again, "fair"),
+    30: ("what is set aside is told as what is chosen", fairs, "row", aside_for_chosen, "fair"),
+    31: ("a list of orders is answered backwards", kitchen.Library, "fair", backwards, "module"),
+    32: ("an order with a wish that the file lacks is answered as one without a selection", kitchen, "entry", none_for_outside, "module"),
 }  # fmt: skip
 
 

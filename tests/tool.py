@@ -1,10 +1,12 @@
 """Tests of tools/job and host/kitchen.py. Called as `python3 -B tests/tool.py` in the repository's root.
 
-Neither kitchen nor the library is needed: what asks them is in tests/showroom.py, and changes have a stand-in here. The last
-line is `N checks`, and the status 0; or what failed is printed, and the status is 1. Files are written to a temporary folder
+Neither kitchen nor the library is needed: what asks them is in tests/showroom.py, and changes and fairs have stand-ins here. The
+last line is `N checks`, and the status 0; or what failed is printed, and the status is 1. Files are written to a temporary folder
 only.
 """
 
+import contextlib
+import json
 import os
 import pathlib
 import pty
@@ -31,7 +33,7 @@ import kitchen  # noqa: E402
 import names as namings  # noqa: E402
 import reader as reference  # noqa: E402
 import rules as second  # noqa: E402
-from showroom import asking, changing, commands, files, guide, reasons, rules, telling, texts, words  # noqa: E402
+from showroom import asking, changing, commands, fairs, files, guide, reasons, rules, telling, texts, words  # noqa: E402
 
 TOOL = ROOT / "tools" / "job"
 RULES = (ROOT / "docs" / "RULES.md").read_text()
@@ -823,7 +825,7 @@ def stated_reasons():
 
 def explanations(folder):
     found = stated_reasons()
-    equal(sorted(found), list(range(1, 18)), "the rules have 17 reasons")
+    equal(sorted(found), list(range(1, 19)), "the rules have 18 reasons")
     for number, (wrong, place) in found.items():
         text = reasons.explained(number)
         check(text.startswith(f"Reason {number}: {wrong}.\n"), f"explain {number}: {text}")
@@ -832,6 +834,8 @@ def explanations(folder):
         check(len(text.splitlines()) == 3, f"explain {number}, three lines: {text}")
     check(reasons.NO_KITCHEN in reasons.explained(14), "14 in words")
     check(reasons.NO_PLAN.format("the horizon") in reasons.explained(15), "15 in words")
+    for place in (None, 0):
+        check("\nIt has no place: no call is turned down by it.\n" in reasons.explained(18, place), "18 has no place")
     places_explained()
     small, short = A[:29] + b"\x02" + A[30:], N[:-1]
     for number, place, file, phrase in [
@@ -870,14 +874,15 @@ def explanations(folder):
         (("16",), b"", reasons.explained(16).encode()),
         (("17",), b"", reasons.explained(17).encode()),
         (("17", "0", path), b"", reasons.explained(17, 0, kitchen.Reader(small)).encode()),
+        (("18",), b"", reasons.explained(18).encode()),
         (("14", "0"), b"", reasons.explained(14, 0).encode()),
         (("14", "1", path), b"", reasons.explained(14, 1, kitchen.Reader(small)).encode()),
         (("14", "2"), b"", reasons.explained(14, 2).encode()),
     ):
         equal(quick("explain", *arguments, stdin=stdin), (0, output, ""), f"explain {arguments}")
-    for number in ("0", "18", "x", "", "9" * 5000, "٣", os.fsdecode(b"\xff")):
+    for number in ("0", "19", "x", "", "9" * 5000, "٣", os.fsdecode(b"\xff")):
         status, output, errors = quick("explain", number)
-        check((status, output) == (1, b"") and "expected a number from 1 to 17" in errors, f"explain {number[:9]!r}: {errors}")
+        check((status, output) == (1, b"") and "expected a number from 1 to 18" in errors, f"explain {number[:9]!r}: {errors}")
     for arguments, phrase in ((("6", "x", path), "'x' is no place; expected a number"), (("6", "1", path, path), "unrecognized")):
         status, output, errors = quick("explain", *arguments)
         check((status, output) == (2, b"") and phrase in errors, f"explain {arguments}: {errors}")
@@ -893,6 +898,7 @@ COUNTED = {
 def places_explained():
     """The place of 14: as far as it can be said of a list of goals, and what it means in kitchen."""
     place = "the index of the first goal in the list that falls short, and the list's length if none does; of a price it is 0"
+    place += ", and of an order of a fair it is not told"
     check(f"The place is {place}.\n" in reasons.explained(14), "the place of 14")
     for number, goals in ((0, "0 goals"), (1, "1 goal"), (2, "2 goals"), (64, "64 goals"), (10**30, f"{10**30} goals")):
         text = reasons.explained(14, number)
@@ -1000,7 +1006,12 @@ def host_rest(folder):
     equal(kitchen.members_of(2**63 + 5), {0, 2, 63}, "the members of a number")
     for number in (0, 1, 2**63 - 1, -1, -(2**63), -50, 64 * (2**31 - 1), -64 * 2**31):
         equal(kitchen.signed(number % 2**64), number, f"{number} in two's complement")
-    equal([repr(kitchen.NoSelection(1)), repr(kitchen.NoPlan)], ["NoSelection(place=1)", "NoPlan"], "that there is none")
+    nones = [repr(kitchen.NoSelection(1)), repr(kitchen.NoPlan), repr(kitchen.OrderOutsideFile)]
+    equal(nones, ["NoSelection(place=1)", "NoPlan", "OrderOutsideFile"], "that there is none")
+    equal(kitchen.entry(0, 5, 2**63), kitchen.Selection({0, 2}, {63}), "an entry with a selection")
+    equal([kitchen.entry(14, 0, 0), kitchen.entry(18, 0, 0)], [kitchen.NoSelection(None), kitchen.OrderOutsideFile], "entries without one")
+    for status in (1, 10, 13, 15, 17, 19, 2**64 - 1):
+        raised(kitchen.Unusable, f"by the status {status}, which no order has", kitchen.entry, status, 0, 0)
     text, loop = folder / "no library.so", folder / "loop.so"
     text.write_text("no library")
     loop.symlink_to(loop)
@@ -1039,7 +1050,7 @@ TOLD = [
 # Whatever the job is, this is no answer.
 NO_ANSWER = [
     "", "\n", "chosen", "chosen\n", "chosen \naside\n", "aside\nchosen\n", "rounds\n", "rounds \n", "rounds 1\n", "rounds -1\n", "rounds 1\n1:\n",
-    "refused\n", "refused 9 at 0\n", "refused 1 at 0\n", "refused 2 at 45\n", "refused 13 at 0\n", "refused 16 at 0\n", "refused 17 at 0\n",
+    "refused\n", "refused 9 at 0\n", "refused 1 at 0\n", "refused 2 at 45\n", "refused 13 at 0\n", "refused 16 at 0\n", "refused 17 at 0\n", "refused 18 at 0\n",
     "refused 14 at 2\n", "refused 15 at 1\n", "refused 14 at 0", "refused 15 at 0", "refused 14 at 0\r\n", "refused 15 at 0\r\n", "refused 014 at 0\n",
     "refused 14 at 0\n\n", "refused 15 at 0\n ", " refused 14 at 0\n", "Refused 14 at 0\n", "refused 14 at 0\nrefused 14 at 0\n", "\0", "rounds 1\n1: ٠\n",
     "refused 14\n", "refused 14 at\n", "refused 14 at \n", "refused 14 at -1\n", "refused 14 at 00\n", "refused 14 at 01\n", "refused 14 at 10\n",
@@ -1675,7 +1686,7 @@ def changes_tried():
         for other in others:
             expected = right if other == right else "no answer"
             equal(outcome_of(with_library, says(other), changing.saved, file, found), expected, f"{other.hex()} for {found} of {job}")
-        for number in (0, *range(1, 18), 99):
+        for number in (0, *range(1, 19), 99):
             same = isinstance(right, str) and right.startswith(f"refused {number} at ")
             told = outcome_of(with_library, says(kitchen.Refused(number, 0)), changing.saved, file, found)
             equal(told, f"refused {number} at 0" if same else "no answer", f"a refusal by {number} for {found} of {job}")
@@ -1807,6 +1818,359 @@ def own_file(folder):
     equal(path.read_bytes(), SHOP, "the job file is as it was")
 
 
+# ---- the orders of a fair
+
+CATALOGUE = (
+    'choice\nwishes: a, b, front: oak, oak, "x, y", "#7", ü\n'
+    "article A\nwishes: a\narticle B\nwishes: b\nclashes: A\narticle\nwishes: a, b\nclashes: A, B\narticle Oak\nwishes: front: oak, oak\n"
+)
+# A line of a list for it, and the label and the wishes that it means.
+ORDERED = [
+    ("a", None, {0}),
+    (" a ,b ", None, {0, 1}),
+    ("#1,a, #2", None, {0, 1, 2}),
+    ("#0063", None, {63}),
+    ("#7, #40", None, {7, 40}),
+    ('"#7", "x, y"', None, {4, 5}),
+    ('"front: oak"', None, {2}),
+    ("a, front: oak", None, {0, 2}),
+    ("u\u0308", None, {6}),
+    ("Miller: a, b", b"Miller", {0, 1}),
+    ("Miller:a", b"Miller", {0}),
+    ("\u00a0Miller\t:\u3000a", b"Miller", {0}),
+    ("Miller:", b"Miller", set()),
+    ("order: front: oak", b"order", {2}),
+    ("Table 4 (Halle 2): #9", b"Table 4 (Halle 2)", {9}),
+    ('"Jones, Ann" : oak', b"Jones, Ann", {3}),
+    ('"a": b', b"a", {1}),
+    ('"front": oak', b"front", {3}),
+    ('"12:30": oak', b"12:30", {3}),
+    ('"\\"": #0', b'"', {0}),
+    ('"\\xFF": #0', b"\xff", {0}),
+    ("M\u00fcller: a", "Müller".encode(), {0}),
+]
+# A line that is none for it, and a part of each of its faults.
+NOT_ORDERED = [
+    ("c", ['no wish is named "c"; expected the name of one, or its number, as #3']),
+    ("Miller: a, d, e", ['no wish is named "d"', 'no wish is named "e"']),
+    ("fron: aok", ['(near: "oak")']),
+    ("wish 1", ['no wish is named "wish 1"']),
+    ("A", ['(near: "a")']),
+    ("a, a", ['"a" is in the list twice']),
+    ("M: a, #0", ["#0 is in the list twice"]),
+    ("a,", ["the list ends with a comma; expected a further name"]),
+    ("M: ,", ["the list ends with a comma", "a name is missing in front of a comma"]),
+    ("#64", ["#64 is too large; expected numbers below 64, as no set has room for others"]),
+    ("M: a, #" + "9" * 5000, ["is too large"]),
+    ("#3x", ["#3x is no number; expected one, as #3, or a name in quotation marks; a comment has a line of its own"]),
+    ("M: #-1", ["#-1 is no number"]),
+    ("a # b", ["a comment has a line of its own"]),
+    ("M: a, # b", ["a comment has a line of its own"]),
+    (": a", ["there is no label in front of the colon; expected one, or no colon"]),
+    (" :", ["there is no label in front of the colon"]),
+    ("front: oak", ['"front: oak" is the name of a wish; expected the wish or the label in quotation marks']),
+    ("front: oak, b", ['"front: oak" is the name of a wish']),
+    ("a: b", ['"a" is the name of a wish; expected the wish or the label in quotation marks']),
+    ("u\u0308 : b", ['"u\u0308" is the name of a wish']),
+    ("Miller, Ann: a", ['no wish is named "Miller"', 'no wish is named "Ann: a"']),
+    ("M: N: a", ['no wish is named "N: a"']),
+    ("#3: a", ['#3 has a #; expected the name as "#3", with the marks']),
+    ('"": a', ["the name is empty"]),
+    ('M": a', ["has a quotation mark"]),
+    ('"M: a', ["has a quotation mark"]),
+    ('"\\y": a', ["a backslash stands alone"]),
+    ("M\u200b: a", ["does not print"]),
+    ("M: a\u200b", ["does not print"]),
+    ("choice", ["no wish is named"]),
+    ("wishes: a, c", ['no wish is named "c"']),
+]
+# Bytes that are taken for a job file, and such that are taken for a text.
+JOB_FILES = [A, F, A[:1], A[:2], F[:1], b"C\0", b"F ", b"C\xff", b"C\n", reference.N, reference.P]
+NO_JOB_FILES = [b"", b"choice\n", b"Choice\n", b"CHOICE", b"Fitting", b"fitting", b"# C\n", b"\xef\xbb\xbfC", b" C", b"B\0", b"Cx"]
+
+
+def catalogue_of(text):
+    """The catalogue of a text; its own order plays no part."""
+    return fairs.from_text(texts.stated(text.encode(), ""))
+
+
+def second_answer(job, order):
+    """The answer to one order against a job of reference/, by the rules and with reference/."""
+    if max(order, default=-1) >= job.wishes:
+        return kitchen.OrderOutsideFile
+    job = job._replace(order=order)
+    try:
+        return kitchen.Selection(*second.chosen(job, second.own_groups(job), [order] if order else [], 0))
+    except reference.Refused:
+        return kitchen.NoSelection(None)
+
+
+def second_answers(file, orders):
+    """The answers to a list of orders, or the refusal of the file."""
+    try:
+        job = reference.read(file, (reference.CHOICE,))
+    except reference.Refused as refusal:
+        raise kitchen.Refused(refusal.reason, refusal.place) from None
+    return [second_answer(job, order) for order in orders]
+
+
+class Fair:
+    """In place of the library, with the call for a list of orders. It keeps what it was given."""
+
+    def __init__(self, answers=second_answers):
+        self.answers, self.calls = answers, []
+
+    def fair(self, file, orders):
+        self.calls.append((file, orders))
+        found = self.answers(file, orders) if callable(self.answers) else self.answers
+        if isinstance(found, Exception):
+            raise found
+        return found
+
+
+def at_a_fair(library, action, *arguments, **options):
+    """The action, with this in place of the library."""
+    real, fairs.Library = fairs.Library, lambda: library
+    try:
+        return action(*arguments, **options)
+    finally:
+        fairs.Library = real
+
+
+def fair(*arguments, stdin=b"", library=None):
+    return at_a_fair(library or Fair(), quick, "fair", *arguments, stdin=stdin)
+
+
+def orders_listed():
+    """Lines of a list: what they mean, and what is at fault in them, with their numbers."""
+    named, plain = catalogue_of(CATALOGUE), fairs.from_file(A)
+    for line, label, wishes in ORDERED:
+        equal(fairs.orders_in(line.encode(), named), [fairs.Order(1, label, wishes)], f"the order {line!r}")
+    for line, phrases in NOT_ORDERED:
+        faults = faults_in(f"# a list\n\n{line}\noak\n", named)
+        equal([number for number, _ in faults], [3] * len(phrases), f"the order {line[:80]!r}: {faults}")
+        for (_, message), phrase in zip(faults, phrases):
+            check(phrase in message and "expected" in message and len(message) < 400, f"the order {line[:80]!r}: {message}")
+    for line, label, wishes in (("wish 1, #0", None, {0, 1}), ("M: wish 2", b"M", {2}), ("wish 63", None, {63}), ('"wish 0"', None, {0})):
+        equal(fairs.orders_in(line.encode(), plain), [fairs.Order(1, label, wishes)], f"the order {line!r} for a job file")
+    for line, phrase in (
+        ("oak", 'no wish is named "oak"; expected its number, as #3 or "wish 3": job files name no wishes'),
+        ("wish 64", "wish 64 is too large; expected numbers below 64"), ("wish 01", 'no wish is named "wish 01"'),
+        ("wish 1: #0", '"wish 1" is the name of a wish'), ("wish 1, #1", "#1 is in the list twice"),
+    ):  # fmt: skip
+        faults = faults_in(line, plain)
+        check(len(faults) == 1 and phrase in faults[0][1], f"the order {line!r} for a job file: {faults}")
+    lines = "\ufeffa\r\n\r\n  # it is\r\nM: b\roak\n".encode()
+    equal([order.line for order in fairs.orders_in(lines, named)], [1, 4, 5], "the lines of a list, whatever ends them")
+    check("the line is not in UTF-8" in faults_in(b"a\n\xfc\n", named)[0][1], "a list in Latin-1")
+    equal(fairs.orders_in(b"\n# none\n", named), [], "a list without orders")
+    equal([fairs.is_job_file(found) for found in JOB_FILES + NO_JOB_FILES], [True] * len(JOB_FILES) + [False] * len(NO_JOB_FILES), "what is a job file")
+    for file in [reference.written(job) for job in (drawn.full_choice(), *(random_job(random.Random(seed)) for seed in range(40)))]:
+        check(fairs.is_job_file(file) and not fairs.is_job_file(text_of(file)), f"{file[:20]!r} is a job file, and its text is none")
+
+
+def faults_in(text, catalogue):
+    """The faults of a list of orders."""
+    try:
+        fairs.orders_in(text if isinstance(text, bytes) else text.encode(), catalogue)
+        return []
+    except texts.Faulty as faulty:
+        return faulty.faults
+
+
+def long_lists():
+    """A long list is read in time, and given to the library in shares: each order once, and the same bytes each time."""
+    catalogue, start = catalogue_of(CATALOGUE), time.process_time()
+    orders = fairs.orders_in("".join(f"Kunde {number}: a, #{number % 64 or 1}\n" for number in range(40_000)).encode(), catalogue)
+    used = time.process_time() - start
+    check(len(orders) == 40_000 and used < 5, f"{len(orders)} orders in {used:.1f} seconds")
+    start = time.process_time()
+    faults = faults_in("junk: junk, junk\n" * 40_000 + "x" * 10**6 + "\n" + " " * 10**6 + "y", catalogue)
+    used = time.process_time() - start
+    check(len(faults) == 80_002 and used < 8, f"{len(faults)} faults in {used:.1f} seconds")
+    for count in (0, 1, fairs.SHARE - 1, fairs.SHARE, fairs.SHARE + 1, 3 * fairs.SHARE + 7):
+        library, told = Fair(), []
+        answers = at_a_fair(library, fairs.asked, catalogue, orders[:count], told.append)
+        shares = [order for _, share in library.calls for order in share]
+        equal(shares, [order.wishes for order in orders[:count]], f"{count} orders, each once")
+        equal(len(library.calls), max(1, -(-count // fairs.SHARE)), f"{count} orders in shares")
+        equal({file for file, _ in library.calls}, {catalogue.file}, "the bytes of the catalogue")
+        check(told == sorted(told) and told[-1] == len(answers) == count, f"{count} orders, how far it is: {told}")
+
+
+def wrong_answers(source, job, order, right):
+    """Other answers to an order, none of which is the right one."""
+    n = len(job.articles)
+    chosen, aside = right if isinstance(right, kitchen.Selection) else (set(), set())
+    others = [kitchen.Selection(second.of(number), aside) for number in source.sample(range(2**n), min(6, 2**n))]
+    others += [kitchen.Selection(chosen, drawn.some(source, n, 0.4)), kitchen.Selection(chosen | {n}, aside), kitchen.Selection(chosen, aside | {63})]
+    others += [kitchen.NoSelection(None), kitchen.NoSelection(0), kitchen.OrderOutsideFile, kitchen.NoPlan, None]
+    return [other for other in others if other != right]
+
+
+def fairs_tried():
+    """Of all answers to an order only the right one is told; and no other list, and no refusal."""
+    source, seen = random.Random(9), {"kitchens": 0, "none": 0, "outside": 0, "wrong": 0}
+    for job in [drawn.drawn_choice(source) for _ in range(200)] + [drawn.wide_choice(source) for _ in range(2)]:
+        file = reference.written(job)
+        catalogue = fairs.from_file(file)
+        sets = [job.order, set(), *(drawn.some(source, min(64, job.wishes + source.randrange(2)), 0.5) for _ in range(3))]
+        orders, right = [fairs.Order(line, None, order) for line, order in enumerate(sets, 1)], second_answers(file, sets)
+        equal(at_a_fair(Fair(), fairs.asked, catalogue, orders), right, f"{sets} of {job}")
+        seen["kitchens"] += sum(isinstance(answer, kitchen.Selection) for answer in right)
+        seen["none"] += right.count(kitchen.NoSelection(None))
+        seen["outside"] += right.count(kitchen.OrderOutsideFile)
+        at = source.randrange(len(sets))
+        wrong = [] if len(job.articles) > 8 else wrong_answers(source, job, sets[at], right[at])
+        lists = [[*right[:at], answer, *right[at + 1 :]] for answer in wrong] + [right[:-1], [*right, right[-1]], []]
+        for answers in lists + [kitchen.Refused(number, 0) for number in (0, 1, 6, 10, 14, 18)] + [kitchen.Unusable("it is missing")]:
+            phrase = "the orders cannot be answered: it is missing" if isinstance(answers, kitchen.Unusable) else "this cannot be what the library answers: "
+            raised(asking.Failed, phrase, at_a_fair, Fair(answers), fairs.asked, catalogue, orders)
+            seen["wrong"] += 1
+    check(min(seen.values()) > 100, f"answers to orders that are told, and that are not: {seen}")
+    refused_catalogues()
+
+
+def refused_catalogues():
+    """The refusal of a job file is told if the rules have it, and nothing else is."""
+    for file, right in ((b"C", (2, 1)), (A[:-1], (2, 45)), (A + b"\0", (8, 46)), (F, (1, 0)), (b"F\0", (1, 0)), (b"C\x41", (3, 1))):
+        catalogue = fairs.from_file(file)
+        equal(catalogue.text, None, f"{file[:9]!r} is no catalogue")
+        raised(kitchen.Refused, "refused %d at %d" % right, at_a_fair, Fair(), fairs.asked, catalogue, [])
+        for answer in ([], kitchen.Refused(right[0], right[1] + 1), kitchen.Refused(right[0] % 8 + 1, right[1]), kitchen.Refused(10, 0)):
+            raised(asking.Failed, "this cannot be what the library answers: it ", at_a_fair, Fair(answer), fairs.asked, catalogue, [])
+
+
+# A list for CATALOGUE, and what is told of it.
+LIST = 'Miller: a, b\n# no more\n"Jones, Ann": front: oak, a\n\n#0, #7, #50\nü\nempty:\n'
+TABLE = """\
+line | order      | kitchen                             | set aside
+   1 | Miller     | article 2                           | A; B
+   3 | Jones, Ann | A; Oak                              | B
+   5 |            | the catalogue has no wish #7 or #50 |
+   6 |            | no such kitchen                     |
+   7 | empty      | (no article is needed)              | -
+
+5 orders; with a kitchen: 3; no such kitchen: 1; with a wish that the catalogue lacks: 1.
+"""
+LINES = [
+    {"line": 1, "label": "Miller", "order": ["a", "b"], "answer": "kitchen",
+     "articles": [{"number": 2, "name": None, "wishes": ["a", "b"]}],
+     "set_aside": [{"number": 0, "name": "A"}, {"number": 1, "name": "B"}]},
+    {"line": 3, "label": "Jones, Ann", "order": ["a", "front: oak"], "answer": "kitchen",
+     "articles": [{"number": 0, "name": "A", "wishes": ["a"]}, {"number": 3, "name": "Oak", "wishes": ["front: oak"]}],
+     "set_aside": [{"number": 1, "name": "B"}]},
+    {"line": 5, "label": None, "order": ["a", "#7", "#50"], "answer": "no such wish", "lacks": [7, 50]},
+    {"line": 6, "label": None, "order": ["ü"], "answer": "no such kitchen"},
+    {"line": 7, "label": "empty", "order": [], "answer": "kitchen", "articles": [], "set_aside": []},
+]  # fmt: skip
+
+
+def fairs_told(folder):
+    """The command, with a stand-in for the library: a table, or lines of JSON, and the status."""
+    path, listed, job = folder / "catalogue.txt", folder / "fair.orders", folder / "catalogue.job"
+    path.write_text(CATALOGUE)
+    listed.write_text(LIST)
+    job.write_bytes(catalogue_of(CATALOGUE).file)
+    hint = f"`tools/job advise {path} --order LIST` says why there is none.\n"
+    equal(fair(path, listed), (3, (TABLE + hint).encode(), ""), "a table")
+    equal(fair(path, "-", stdin=LIST.encode()), (3, (TABLE + hint).encode(), ""), "orders from standard input")
+    equal(fair("-", listed, stdin=CATALOGUE.encode())[:2], (3, (TABLE + hint.replace(str(path), "-")).encode()), "a catalogue from standard input")
+    ordered = CATALOGUE.replace("article A\n", "order: b, c\narticle A\n")
+    equal(fair("-", listed, stdin=ordered.encode())[1], fair("-", listed, stdin=CATALOGUE.encode())[1], "the catalogue's own order plays no part")
+    lines = [{"text": str(listed)} | line for line in LINES]
+    equal(lines_in(fair(path, listed, "--json")), (3, lines, ""), "lines of JSON")
+    equal(lines_in(fair("--json", path, "-", stdin=LIST.encode()))[1], [line | {"text": "standard input"} for line in lines], "JSON of standard input")
+    by_number = 'Miller: #0, wish 1\n#\n"Jones, Ann": wish 2, #0\n\n#0, #7, wish 50\n#6\nempty:'
+    equal(fair(job, "-", stdin=by_number.encode()), (3, TABLE.encode(), ""), "the table of a job file")
+    found = lines_in(fair(job, "-", "--json", stdin=by_number.encode()))[1]
+    equal([line["order"] for line in found], [["wish 0", "wish 1"], ["wish 0", "wish 2"], ["wish 0", "#7", "#50"], ["wish 6"], []], "wishes of a job file")
+    for text, status, rows in (
+        ("a\n", 0, ["line | kitchen | set aside", "   1 | A       | B", "", "1 order; with a kitchen: 1; no such kitchen: 0; with a wish that the catalogue lacks: 0."]),
+        ("", 0, ["The list has no order."]), ("# none\n", 0, ["The list has no order."]),
+    ):  # fmt: skip
+        equal(fair(path, "-", stdin=text.encode()), (status, "".join(f"{row}\n" for row in rows).encode(), ""), f"the list {text!r}")
+    equal(fair(path, "-", "--json", stdin=b"\n"), (0, b"", ""), "no order, and so no line")
+    for text, status in (("a\nb", 0), ("a\nü", 3), ("#9", 3), ("M:", 0)):
+        equal(fair(path, "-", stdin=text.encode())[0], status, f"the status of {text!r}")
+    sample = fairs.orders_in((ROOT / "jobs" / "fair.orders").read_bytes(), catalogue_of((ROOT / "jobs" / "kitchen.txt").read_text()))
+    check(len(sample) > 4 and any(order.label for order in sample), f"the sample of a list: {sample}")
+    fairs_not_told(folder, path, listed)
+    at_terminals(path, listed)
+
+
+def lines_in(found):
+    """What a call with --json gives, its lines read."""
+    status, output, errors = found
+    return status, [json.loads(line) for line in output.decode().splitlines()], errors
+
+
+def fairs_not_told(folder, path, listed):
+    """What is at fault, and who cannot be asked or believed: the status, nothing of a table, and with --json an error."""
+    faulty, plan, other = folder / "faulty.orders", ROOT / "jobs" / "F.txt", folder / "other"
+    faulty.write_text("Miller: a\nb, c\n\nd\n")
+    missing = kitchen.Unusable("libkitchen.so is missing; build it with tools/library")
+    refused = [(A[:-1], "refused 2 at 45"), (F, "refused 1 at 0"), (b"C", "refused 2 at 1"), (A + b"\0", "refused 8 at 46")]
+    cases = [
+        (path, faulty, Fair(), f"{faulty}:2: no wish is named "), (folder / "missing", listed, Fair(), "missing: No such file or directory"),
+        (path, folder / "missing", Fair(), "missing: No such file or directory"), (path, folder, Fair(), "Is a directory"),
+        (faulty, listed, Fair(), f'{faulty}:1: expected "choice" or "fitting"'), (path, listed, Fair(missing), f"the orders cannot be answered: {missing}"),
+        (path, listed, Fair([]), "this cannot be what the library answers: 0 answers to 5 orders"),
+    ]
+    for file, refusal in refused:
+        (folder / f"{refusal}.job").write_bytes(file)
+        cases += [(folder / f"{refusal}.job", faulty, Fair(), f"{refusal}\nReason {refusal.split()[1]}: ")]
+    for catalogue, orders, library, phrase in cases:
+        status, output, errors = fair(catalogue, orders, library=library)
+        check((status, output) == (1, b"") and phrase in errors, f"{catalogue.name}, {orders.name}: {status}, {output}, {errors}")
+        status, lines, said = lines_in(fair(catalogue, orders, "--json", library=library))
+        equal((status, lines, said), (1, [{"text": str(orders), "answer": "error", "message": errors.rstrip()}], errors), f"{phrase}, as JSON")
+    equal(fair(path, faulty)[2].splitlines()[:2], [f'{faulty}:2: no wish is named "c"; expected the name of one, or its number, as #3', "    b, c"], "a fault")
+    other.write_text("Choice\nwishes: a\n")
+    check(f"{other}:1: expected" in fair(other, listed)[2], "a text that begins with a capital")
+    for arguments, phrase in (((plan, listed), "is a fitting, which has no orders; expected a choice"), (("-", "-"), "standard input can be read only once")):
+        status, output, errors = fair(*arguments)
+        check((status, output) == (2, b"") and phrase in errors, f"fair {arguments}: {errors}")
+    real, kitchen.library_path = kitchen.library_path, lambda: None
+    try:
+        equal(quick("fair", path, listed), (1, b"", f"the orders cannot be answered: {missing}\n"), "without a library")
+    finally:
+        kitchen.library_path = real
+
+
+def errors_at_terminal(*arguments):
+    """The status of a call whose standard error is a terminal, and what came there."""
+    mine, its = pty.openpty()
+    child = os.fork()
+    if child == 0:
+        with open(os.devnull, "r+b") as nothing, open(its, "wb") as terminal:
+            copied(arguments, (nothing, nothing, terminal))
+    os.close(its)
+    came = b""
+    with contextlib.suppress(OSError):  # it ends so, once nobody writes any more
+        while part := os.read(mine, 10_000):
+            came += part
+    os.close(mine)
+    return os.waitstatus_to_exitcode(os.waitpid(child, 0)[1]), came.decode()
+
+
+def at_terminals(path, listed):
+    """How far a long list is, is told at a terminal only, and in a line that is cleared; nothing is of a short one."""
+    kept = listed.read_text()
+    equal(at_a_fair(Fair(), errors_at_terminal, "fair", path, listed), (3, ""), "a short list at a terminal")
+    count = 2 * fairs.SHARE + 1
+    listed.write_text("#0\n" * count)
+    status, came = at_a_fair(Fair(), errors_at_terminal, "fair", path, listed)
+    told = [line for line in came.split("\r") if line.strip()]
+    equal((status, [line.rstrip() for line in told]), (0, [f"{done:,} of {count:,} orders" for done in (fairs.SHARE, 2 * fairs.SHARE, count)]), f"a long list: {came!r}")
+    check(came.endswith(f"\r{' ' * 40}\r"), f"the line is cleared: {came!r}")
+    status, output, errors = fair(path, listed)
+    check((status, errors) == (0, "") and output.count(b"\n") == count + 3, f"a long list without a terminal: {status}, {errors!r}")
+    status, came = at_a_fair(Fair([]), errors_at_terminal, "fair", path, listed)
+    check(status == 1 and re.fullmatch(r"\r {40}\rthis cannot be what the library answers: 0 answers to 500 orders\r?\n", came), f"a long list that fails: {came!r}")
+    listed.write_text(kept)
+
+
 # ---- streams
 
 
@@ -1893,6 +2257,11 @@ def closed_streams(folder):
         (("change", "/dev/zero", "order"), "", "/dev/zero: it has more than 4,000,000 bytes"),
         (("change", folder, "name", "#0"), "", f"{folder}: Is a directory"),
         (("change", folder / "missing.job", "order"), "", "missing.job: No such file or directory"),
+        (("fair", "-", SMALL_TEXT), "<&-", "standard input is closed"),
+        (("fair", SMALL_TEXT, "-"), "<&-", "standard input is closed"),
+        (("fair", "/dev/zero", SMALL_TEXT), "", "/dev/zero: it has more than 4,000,000 bytes"),
+        (("fair", SMALL_TEXT, "/dev/zero"), "", "/dev/zero: it has more than 4,000,000 bytes"),
+        (("fair", SMALL_TEXT, folder), "", f"{folder}: Is a directory"),
         (("show", "-"), "0>/dev/null", "standard input: Bad file descriptor"),
         (("show", "-"), "</dev/zero", "standard input: it has more than 4,000,000 bytes"),
         (("show", "/dev/zero"), "", "/dev/zero: it has more than 4,000,000 bytes"),
@@ -1972,6 +2341,7 @@ COMMANDS = {
     "read": ("FILE", "- for standard input"),
     "show": ("FILE", "- for standard input"),
     "change": ("[-o NEW] FILE WHAT", "- for standard input", "standard output", "needs tools/library", *changing.CHANGES.values()),
+    "fair": ("[--json] CATALOGUE ORDERS", "- for standard input", "needs tools/library"),
     "explain": ("NUMBER", "[PLACE] [FILE]", "- for standard input"),
 }
 # The arguments of each change.
@@ -2030,6 +2400,14 @@ MISUSED = [
     (("change", "a", "order", os.fsdecode(b"\xff")), "argument LIST: it is not in UTF-8; expected UTF-8"),
     (("change", "a", "name", os.fsdecode(b"\xff"), "b"), "argument ARTICLE: it is not in UTF-8"),
     (("change", "a", "name", "b", os.fsdecode(b"\xe4")), "argument NAME: it is not in UTF-8"),
+    (("fair",), "required: CATALOGUE, ORDERS"),
+    (("fair", "a"), "required: ORDERS"),
+    (("fair", "a", "b", "c"), "unrecognized arguments: c"),
+    (("fair", "a", "b", "--order", "c"), "unrecognized arguments: --order"),
+    (("fair", "a", "b", "--rate", "19"), "unrecognized arguments: --rate"),
+    (("fair", "a", "b", "-o", "c"), "unrecognized arguments: -o c"),
+    (("fair", "-", "-"), "standard input can be read only once"),
+    (("fair", ROOT / "jobs" / "F.txt", "b"), "is a fitting, which has no orders; expected a choice"),
 ]
 
 
@@ -2104,6 +2482,9 @@ def helpful(folder):
         " ".join(guide.CHOICE_EXAMPLE.split()),
         " ".join(guide.FITTING_EXAMPLE.split()),
         guide.CHANGE_EXAMPLE.strip(),
+        " ".join(guide.FAIR_EXAMPLE.split()),
+        "A name that no wish has is a fault, and then nothing is told.",
+        "Of a fair: 3 if an order has none, or names a wish that the catalogue lacks.",
     ):
         check(phrase in text, f"--help says: {phrase}")
     limits = [kitchen.CHOICE.limit, kitchen.FITTING.limit, kitchen.FITTING.horizon, kitchen.LONGEST_NAME]
@@ -2124,6 +2505,10 @@ def helpful(folder):
     equal(change(folder / path, *rest, folder / target), (0, b"", ""), "the example of a change")
     example = guide.CHOICE_EXAMPLE.replace("wishes: corner larder\n#", "wishes: #0, #1\n#")
     check(example != guide.CHOICE_EXAMPLE and (folder / target).read_bytes() == written(example), "what the example changes")
+    orders = fairs.orders_in(guide.FAIR_EXAMPLE.encode(), catalogue_of(guide.CHOICE_EXAMPLE))
+    equal([(order.label, order.wishes) for order in orders], [(b"Miller", {0}), (b"Jones, Ann", {1}), (None, {0, 1})], "the example of a fair")
+    found = second_answers(written(guide.CHOICE_EXAMPLE), [order.wishes for order in orders])
+    equal(found, [kitchen.Selection({0}, {1}), kitchen.Selection({1}, {0}), kitchen.NoSelection(None)], "what comes of the example of a fair")
 
 
 def tried(part, *arguments):
@@ -2137,13 +2522,13 @@ def tried(part, *arguments):
 def main():
     with tempfile.TemporaryDirectory() as name:
         folder = pathlib.Path(name).resolve()
-        for part in (samples, texts_with_faults, odd_texts, keyboards, warnings, orders, files_refused, explanations, changes):
+        for part in (samples, texts_with_faults, odd_texts, keyboards, warnings, orders, files_refused, explanations, changes, fairs_told):
             tried(part, folder)
         for part in (texts_in_order, amounts, comments, large_texts, blanks, names_by_the_second_program, there_and_back):
             tried(part)
         for part in (host_jobs, host_limits, answers, printed_junk, none_told, bounds, prices, prices_told, choice_rules, plan_rules):
             tried(part)
-        for part in (meant, changes_tried):
+        for part in (meant, changes_tried, orders_listed, long_lists, fairs_tried):
             tried(part)
         for part in (host_rest, standard_input, own_text, terminals, closed_streams, rights, ended, usage, locales, helpful):
             tried(part, folder)

@@ -51,11 +51,14 @@ class Meaning(Listing):
         """The number that `#3` or `wish 3` states."""
         found = NUMBER.fullmatch(text) or WISH.fullmatch(text)
         if not found:
-            return self.fault(argument, f"{brief(text)} is no number; expected one, as #3, or a name in quotation marks")
+            return self.fault(argument, f"{brief(text)} is no number; expected one, as #3, or a name in quotation marks", text)
         digits = found[1].lstrip("0") or "0"
         if len(digits) > len(str(most)) or int(digits) > most:
-            raise Beyond(f"argument {argument}: {brief(text)} is too large; expected {expected}")
+            return self.beyond(argument, f"{brief(text)} is too large; expected {expected}")
         return int(digits)
+
+    def beyond(self, argument, message):
+        raise Beyond(f"argument {argument}: {message}")
 
     def member(self, argument, text):
         return self.number(argument, text, WIDTH - 1, f"numbers below {WIDTH}, as no set has room for others")
@@ -148,14 +151,20 @@ def try_saved(file, change, new):
         raise Broken("the new file is not the old job with this change")
 
 
-def ruled_out(file, change):
-    """By which reason the rules refuse a change, and at which place, None for one of the new file; None if they do not."""
+def refused_choice(file):
+    """By which reason the rules refuse a file that should be a choice, and at which place; None if they do not."""
     reader = Reader(file)
     if reader.kind is not CHOICE:
         return 1, 0
-    if reader.refusal:
-        return reader.refusal.number, reader.refusal.place
-    job = changed(reader.job, change)
+    return (reader.refusal.number, reader.refusal.place) if reader.refusal else None
+
+
+def ruled_out(file, change):
+    """By which reason the rules refuse a change, and at which place, None for one of the new file; None if they do not."""
+    refusal = refused_choice(file)
+    if refusal:
+        return refusal
+    job = changed(choice_in(file), change)
     if job is None:
         return 9, 0
     try:

@@ -10,7 +10,7 @@ import signal
 import sys
 
 from kitchen import CHOICE, FITTING, VERSION, Reader, Refused, written
-from showroom import advising, changing, telling
+from showroom import advising, changing, fairs, telling
 from showroom.asking import Failed, asked, bound, cheapest, further, there_is_none
 from showroom.files import job_table, job_text
 from showroom.guide import GUIDE, SUMMARY
@@ -114,6 +114,22 @@ def not_for_terminal(options):
     """A job file is not written to a terminal."""
     if options.output is None and sys.stdout is not None and sys.stdout.isatty():
         raise Misuse("a job file is no text for a terminal; expected -o FILE or a pipe")
+
+
+@contextlib.contextmanager
+def progress(count):
+    """Gives what tells how many orders of a long list are done, in one line that is cleared in the end; only at a terminal."""
+    shows = count > fairs.SHARE and sys.stderr is not None and sys.stderr.isatty()
+
+    def tell(line):
+        with contextlib.suppress(OSError), open(2, "wb", closefd=False) as out:
+            out.write(f"\r{line:40}\r".encode())
+
+    try:
+        yield lambda done: tell(f"{done:,} of {count:,} orders") if shows else None
+    finally:
+        if shows:
+            tell("")
 
 
 def lines_of(lines):
@@ -250,6 +266,59 @@ def change(options):
     return DONE
 
 
+def catalogue_at(path):
+    """The catalogue of a fair, from a text or from a job file. A text need not have an order of its own."""
+    found = contents(path)
+    if fairs.is_job_file(found):
+        return fairs.from_file(found)
+    if kind_of(found) is FITTING:
+        raise Misuse(f"{shown(path)} is a fitting, which has no orders; expected a choice")
+    return fairs.from_text(read_text(path, found, ""))
+
+
+def orders_at(path, catalogue):
+    """The orders of a list. If the catalogue is refused, there is nothing to look names up in, and the refusal is told."""
+    text = contents(path)
+    try:
+        return fairs.orders_in(text, catalogue) if catalogue.text else []
+    except Faulty as faulty:
+        raise Trouble(remarks(shown(path), text, faulty.faults)) from None
+
+
+def all_orders(options):
+    """The status, and what is told of all orders of a list together."""
+    catalogue = catalogue_at(options.catalogue)
+    orders = orders_at(options.orders, catalogue)
+    try:
+        with progress(len(orders)) as done:
+            answers = fairs.asked(catalogue, orders, done)
+    except Refused as refusal:
+        reason = explained(refusal.number, refusal.place, Reader(catalogue.file))
+        raise refused(options.catalogue, refusal, reason) from None
+    chosen, none, _ = fairs.counts(answers)
+    status = DONE if chosen == len(orders) else NONE
+    if options.json:
+        data = (fairs.data(catalogue, order, answer) for order, answer in zip(orders, answers))
+        return status, b"".join(json_line(options.orders, found) for found in data)
+    lines = fairs.told(catalogue, orders, answers)
+    if none and catalogue.named:
+        lines.append(f"`{advise_command(options.catalogue, 'LIST')}` says why there is none.")
+    return status, lines_of(lines)
+
+
+def fair(options):
+    if options.catalogue == options.orders == STANDARD:
+        raise Misuse("standard input can be read only once")
+    try:
+        status, output = all_orders(options)
+    except (Trouble, Failed) as trouble:
+        if options.json:
+            emit(json_line(options.orders, {"answer": "error", "message": words_of(trouble).rstrip()}))
+        raise
+    emit(output)
+    return status
+
+
 def explain(options):
     number, place, file = options.number, options.place, options.file
     if not NUMBER.fullmatch(number) or int(number) not in REASONS:
@@ -347,6 +416,10 @@ def parser():
     for name, action, sentence in (("read", read, "a text from a job file"), ("show", show, "a job file as a table")):
         command(name, action, sentence).add_argument("file", metavar="FILE", help="the job file, - for standard input")
     takes_change(command("change", change, "a choice file with one change, as a new job file (needs tools/library)"))
+    part = command("fair", fair, "a kitchen for each order of a list, from one catalogue (needs tools/library)")
+    part.add_argument("catalogue", metavar="CATALOGUE", help="the text or the job file of a choice, - for standard input")
+    part.add_argument("orders", metavar="ORDERS", help="a text with an order in each line, - for standard input")
+    part.add_argument("--json", action="store_true", help="a line of JSON for each order")
     part = command("explain", explain, "what a refusal means, and what is at its place")
     part.add_argument("number", metavar="NUMBER", help="the number of the reason")
     part.add_argument("place", metavar="PLACE", nargs="?", help="its place")

@@ -29,6 +29,12 @@ step Fit the worktop
 CHANGE_EXAMPLE = """\
 tools/job change larder.job wishes "Larder unit 60" "#0, #1" -o new.job
 """
+FAIR_EXAMPLE = """\
+# orders of a fair
+Miller: corner larder
+"Jones, Ann": no handles
+corner larder, no handles
+"""
 SUMMARY = """\
 From a text to an answer: a kitchen for an order, or the rounds of its fitting, by the proved program `kitchen`.
 """
@@ -95,11 +101,27 @@ How a job file is changed:
   empty or left out, the order becomes empty, or the article is left without wishes, without clashes or without a name.
   `tools/job read new.job | tools/job ask -` asks for the kitchen of the new file.
 
+How the orders of a fair are answered together:
+  `tools/job fair` takes one catalogue, the text or the job file of a choice, and a text with an order in each line. It tells
+  in a table what is chosen for each order and what is set aside, or that there is no such kitchen. The order of the catalogue
+  itself plays no part, and a text need not have one. The proved library answers: tools/library builds it, once, and a folder
+  from `make dist` has it. A list of orders for the first text above:
+
+{indented(indented(FAIR_EXAMPLE))}
+
+  With that in fair.orders, `tools/job fair larder.txt fair.orders` tells two kitchens, and that the third order has none.
+  Lists, names and comments are written as in a text, but a list has to end in its line. A name with a colon after it is a
+  label, which is told with the order; `Miller:` alone is an order without a wish. A name that no wish has is a fault, and then
+  nothing is told. A number, as `#1`, may be that of a wish which the catalogue lacks: this is told of the order, and the others
+  have their answers. If the catalogue is a job file, a wish has its number, or the name that `tools/job read` gives it.
+
 With --json each text has one line:
   text, kind, and answer: "kitchen", "no such kitchen", "plan", "no such plan" or "error"; a kitchen has articles, each
   with number, name and wishes, and set_aside (and further, with --next; and cheapest, with --rate: its articles, which have
   a price, too, its total and its tax, all in cents); "no such kitchen" has falls_short, which is true if counting the
-  wishes rules it out without a search; a plan has rounds; an error has a message.
+  wishes rules it out without a search; a plan has rounds; an error has a message. Of a fair each order has one line: text,
+  line, label, order, and answer: "kitchen", "no such kitchen" or "no such wish"; a kitchen has articles and set_aside, and "no
+  such wish" has lacks, the numbers that the catalogue lacks. If it cannot be answered, there is one line with an error.
 
 Limits:
   a choice   64 articles, 64 wishes
@@ -113,5 +135,6 @@ Status:
      what cannot be its answer
   2  the tool was called in another way than it can be
   3  there is none: "no such kitchen", "no such plan"
-  Of several texts: 1 if one failed, else 3 if one has none.
+  Of several texts: 1 if one failed, else 3 if one has none. Of a fair: 3 if an order has none, or names a wish that the
+  catalogue lacks.
 """

@@ -23,6 +23,7 @@ NO_PLAN = (
     "No such plan exists: whatever steps are done in whatever rounds, the goal is not reached within {}. "
     "Either the horizon has too few rounds, or these steps cannot reach the goal at all."
 )
+NOWHERE = ""  # the place of a reason that is a status only
 # What is wrong, what the place is (None if it is always 0 and says nothing), and a remark.
 REASONS = {
     1: (
@@ -78,7 +79,7 @@ REASONS = {
         "a lent buffer is too short",
         None,
         "A partition has a byte for each article, a plan a word for each round of the horizon, a fact layer 32 words, "
-        "and a round layer 64; a file that is saved has its own length, at most 3,467 bytes.",
+        "a round layer 64, and a fair three words for each order; a file that is saved has its own length, at most 3,467 bytes.",
     ),
     11: (
         "a lent partition is false: an article has a group byte that is not below n, or is in one group with an article "
@@ -98,7 +99,8 @@ REASONS = {
     ),
     14: (
         "there is no selection whose number is the floor or greater",
-        "the index of the first goal in the list that falls short, and the list's length if none does; of a price it is 0",
+        "the index of the first goal in the list that falls short, and the list's length if none does; of a price it is 0, and of "
+        "an order of a fair it is not told",
         "The file is in order. A goal falls short if it has more wishes than the sum of its pass says; then there is no "
         "selection at all, whatever the floor. With the floor 0, as in the program kitchen, 14 means: "
         + NO_KITCHEN,
@@ -119,6 +121,12 @@ REASONS = {
         "a tax rate is above 10,000",
         None,
         "A rate is in hundredths of a percent: 1900 is 19 percent, and 10,000 is all of the total.",
+    ),
+    18: (
+        "an order of a fair names a wish that the file lacks: never of a call, only of an order's entry",
+        NOWHERE,
+        "A fair is a list of orders against one choice file, whose wishes are numbered from 0. The other orders of the list are "
+        "answered all the same.",
     ),
 }
 
@@ -201,15 +209,18 @@ def none_at(place):
     )
 
 
+def place_told(meaning, place):
+    if meaning is None:
+        return "The place is always 0 and says nothing."
+    if meaning == NOWHERE:
+        return "It has no place: no call is turned down by it."
+    return f"The place is {meaning}" + ("." if place is None else f"; here it is {place}.")
+
+
 def explained(number, place=None, reader=None):
     """A refusal in words, and what is at its place if a file was read."""
     wrong, meaning, remark = REASONS[number]
-    lines = [f"Reason {number}: {wrong}."]
-    if meaning is None:
-        lines.append("The place is always 0 and says nothing.")
-    else:
-        lines.append(f"The place is {meaning}" + ("." if place is None else f"; here it is {place}."))
-    lines.append(remark)
+    lines = [f"Reason {number}: {wrong}.", place_told(meaning, place), remark]
     lines.append(none_at(place) if number == NO_SELECTION and place is not None else "")
     lines.append(place_in_file(number, place, reader) if reader else "")
     return "\n".join(line for line in lines if line) + "\n"
