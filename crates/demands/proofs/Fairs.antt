@@ -78,16 +78,24 @@ module _ (file orders buffer : List ℕ) {job : Job (List ℕ)} {end : ℕ} (e :
       pub fair-unsaved : Lacking job wanted → wanted < 2 ^ 64 → (said (offerOf (newFile (newOrder wanted) job)) ≡ refusedBy 6 3) × ((to : List ℕ) → saveOf file (newOrder wanted) to .answer ≡ refusedBy 6 3)
       fair-unsaved lacks few = let ok = choice-stated file bytes e in (new-refused file e ok wanted lacks few, new-unsaved file e ok wanted lacks few)
 
+      -- an order whose status is not 18 fits
+      not-18 : {status x aside : ℕ} → (status ≡ 18 → ⊥) → entryAt words i ≡ status ∷ x ∷ aside ∷ [] → Fitting job wanted
+      not-18 other r lacks = other (ap (λ (l : List ℕ). getD l 0 0) (sym r ∙ fair-lacks .1 lacks))
+
       -- 14 exactly where it fits and there is no selection for it
-      pub fair-none : Fitting job wanted → Exactly (entryAt words i ≡ 14 ∷ 0 ∷ 0 ∷ []) ((x : ℕ) → Selection (networkOf job) wanted x → ⊥)
-      fair-none fits = (
-        λ r x s. none-exactly (networkOf job) wanted 0 (found-nothing file bytes e wanted (selection (networkOf job) wanted 0) (sym (found-entry fits) ∙ r)) x s zero-le,
-        λ h. found-entry fits ∙ ap (λ (o : Option ℕ). entryOf (found file bytes e wanted o)) (exactly-none (networkOf job) wanted 0 (λ x s k. h x s)),
+      pub fair-none : Exactly (entryAt words i ≡ 14 ∷ 0 ∷ 0 ∷ []) (Fitting job wanted × ((x : ℕ) → Selection (networkOf job) wanted x → ⊥))
+      fair-none = (
+        λ r.
+            let fits : Fitting job wanted = not-18 (λ z. let f : ⊥ = omega arith in f) r in
+            (fits, λ x s. none-exactly (networkOf job) wanted 0 (found-nothing file bytes e wanted (selection (networkOf job) wanted 0) (sym (found-entry fits) ∙ r)) x s zero-le),
+        λ (fits, h). found-entry fits ∙ ap (λ (o : Option ℕ). entryOf (found file bytes e wanted o)) (exactly-none (networkOf job) wanted 0 (λ x s k. h x s)),
       )
 
-      -- with 0 the smallest selection, and the set aside
-      pub fair-chosen : Fitting job wanted → {x aside : ℕ} → entryAt words i ≡ 0 ∷ x ∷ aside ∷ [] → ChosenFor job wanted x aside
-      fair-chosen fits r = found-chosen file bytes e wanted (selection (networkOf job) wanted 0) refl (sym (found-entry fits) ∙ r)
+      -- with 0 it fits, and there are the smallest selection and the set aside
+      pub fair-chosen : {x aside : ℕ} → entryAt words i ≡ 0 ∷ x ∷ aside ∷ [] → Fitting job wanted × ChosenFor job wanted x aside
+      fair-chosen r =
+          let fits : Fitting job wanted = not-18 (λ z. let f : ⊥ = omega arith in f) r in
+          (fits, found-chosen file bytes e wanted (selection (networkOf job) wanted 0) refl (sym (found-entry fits) ∙ r))
 
 -- an entry depends on its own order only: in another list, at another place and in another buffer it is the same
 pub fair-own : (file : List ℕ) (orders others buffer buffer′ : List ℕ) → fairOf file orders buffer .answer ≡ answered tt → fairOf file others buffer′ .answer ≡ answered tt → (i j : ℕ) → i < length orders → j < length others

@@ -1,5 +1,5 @@
 -- A fair's orders on a file: from what the reader, the test and the choice told to what the rules answer. Assumes nothing.
-use mathlib.Core.Path.{_≡_, refl, sym, ap, ap₂, subst, _∙_}
+use mathlib.Core.Path.{_≡_, sym, ap, ap₂, _∙_}
 use mathlib.Core.Bool.{Bool, true, false}
 use mathlib.Core.List.{List, [], _∷_, _++_}
 use Prim.Native.Nat.{ℕ, _*_, _/_, _^_, _≤_}
@@ -7,7 +7,6 @@ use lib.Dec.{leb}
 use lib.ListN.{length, drop, getD}
 use Rattle.reading.specs.declared.Reason.the-variants.{OrderOutsideFile}
 use Rattle.reading.specs.declared.Refusal.{Refusal}
-use Rattle.reading.specs.Reasons.{numberOf}
 use Rattle.reading.specs.Got.{got}
 use Rattle.reading.specs.Items.{spots}
 use Rattle.jobfile.specs.declared.Verdict.{Verdict}
@@ -24,7 +23,7 @@ use Rattle.choice.specs.declared.Choice.{Choice}
 use Rattle.choice.specs.declared.Choice.the-variants as Choice
 use Rattle.choice.specs.Choice.{offered}
 use Rattle.choice.proofs.BothLaws.{both-offered}
-use Rattle.arguments.specs.Answers.{Answer, refusal, value, onJob, unless, afterTests, answered, refusalSaid, Left, leaving}
+use Rattle.arguments.specs.Answers.{Answer, value, onJob, unless, answered, refusalSaid, Left, leaving}
 use Rattle.arguments.specs.Tests.{roomTest}
 use Rattle.arguments.specs.Meaning.{verdictOf, networkIn}
 use Rattle.arguments.proofs.FileLaws.{choice-verdict, file-down, job-down, on-job}
@@ -32,7 +31,6 @@ use Rattle.arguments.proofs.TestLaws.{test-refused, through, room-passed}
 use Rattle.arguments.proofs.JobLaws.{ChoiceRead}
 use Rattle.changes.specs.Change.{newOrder, alter, changed}
 use Rattle.calls.specs.Choose.{Chosen, searched}
-use Rattle.calls.specs.Offer.{offerIn}
 use Rattle.calls.proofs.OfferLaws.{offerOver, offer-is}
 use Rattle.fair.specs.Fair.{entryWords, orderIn, entryOf, entries, fairIn, fairOf}
 use Rattle.fair.specs.Meaning.{orderOver}

@@ -1,17 +1,15 @@
 -- `fair::answer_all` meets its contract: the tables are those of the network, the groups its own, and to say clashes both ways changes no choice.
 use borrow.Author.Needs.{needs}
-use mathlib.Core.Path.{_≡_, sym, ap, subst, _∙_}
-use mathlib.Core.List.{List, _++_}
-use Prim.Native.Nat.{ℕ, _*_, _^_, _≤_}
-use native.Mathlib.Omega.{arith}
+use mathlib.Core.Path.{sym, subst, _∙_}
+use mathlib.Core.List.{List}
+use Prim.Native.Nat.{ℕ, _≤_}
 use denote.Ref.{now}
-use lib.ListN.{length, drop, replicate}
+use lib.ListN.{length, replicate}
 use Rattle.sets.specs.Tables.{transposed}
 use Rattle.sets.proofs.Ranges.{zeros}
 use Rattle.network.specs.Tables.{Tabled}
 use Rattle.network.proofs.TableLaws.{tables-right}
 use Rattle.choice.proofs.OfferLaws.{own-groups}
-use Rattle.fair.specs.Fair.{entryWords, entries}
 use Rattle.fair.proofs.FairLaws.{both-answers}
 use Rattle.fair.proofs.answer_all.Statement.{statement}
 use Rattle.fair.proofs.answer_all.Tie as tie
