@@ -29,7 +29,7 @@ CHECKS = {
     "assumptions_as_stated": 1 + THERE["programs"],
     "trace": 1_537,
     "promises": THERE["theorems of the demands"] + THERE["theorems of the requests"],
-    "documents": 660,
+    "documents": 693,
     "unicode_table": 608,
     "second_program": 654,
     "kitchen_prints": 3_280,
@@ -50,7 +50,7 @@ CHECKS = {
     "rust": 10,
     "installed": 6,
     "dist": 38,
-    "leaves_the_tree_clean": 970,
+    "leaves_the_tree_clean": 1_010,
 }
 
 # The answers of each function of the header that tests/every_call.c compares.
