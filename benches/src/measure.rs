@@ -127,7 +127,7 @@ impl Case {
 pub enum Clock {
     /// Time as it passes.
     Monotonic = 1,
-    /// Only while this thread has a processor. For runs so long that other work would take turns with them.
+    /// Only while this thread has a processor: other work is not counted.
     Thread = 3,
 }
 

@@ -11,7 +11,6 @@ use lib.ListN.{length, getD}
 use borrow.Author.Tests.{eqb-false, leb-true, leb-false, le-ltb}
 use Rattle.sets.specs.Sets.{_∈_, full}
 use Rattle.sets.specs.First.{LeastFrom}
-use Rattle.sets.proofs.Bits.{part-refl}
 use Rattle.reading.specs.declared.Reason.the-variants.{AbsentMember, ShortBuffer, OrderOutsideFile}
 use Rattle.reading.specs.Got.{Got, got, refused}
 use Rattle.jobfile.specs.Layout.{choice}
@@ -22,10 +21,9 @@ use Rattle.jobfile.proofs.FileLaws.{Body}
 use Rattle.jobfile.proofs.Theorems.{read-back}
 use Rattle.network.specs.Network.{Network, networkOf, Selection}
 use Rattle.network.specs.Groups.{groupOf}
-use Rattle.network.proofs.GroupLaws.{groups-right}
-use Rattle.filter.specs.Filter.{setAside, firstShort, GoalsWithin}
+use Rattle.filter.specs.Filter.{setAside, firstShort}
 use Rattle.choice.specs.Choice.{selection, soleGoal}
-use Rattle.choice.proofs.Theorems.{the-smallest, set-aside}
+use Rattle.choice.proofs.Theorems.{the-smallest, own-aside}
 use Rattle.arguments.specs.Answers.{Answer, refusal, value, onJob, unless, passed, afterTests, Said, refusedBy, said, leaving}
 use Rattle.changes.specs.Change.{newOrder, changed, newFile}
 use Rattle.changes.specs.Places.{orderPlace}
@@ -40,7 +38,7 @@ use Rattle.calls.proofs.OfferLaws.{offerOver, offer-is}
 use Rattle.fair.specs.Fair.{orderIn, entryOf}
 use Rattle.fair.proofs.FairLaws.{order-new}
 use Rattle.demands.specs.Demands.{Exactly, Refuses, Says, Fault, FirstOf, Off, Wrong}
-use Rattle.demands.specs.Fairs.{Lacking, Fitting, SavedAs, ChosenFor}
+use Rattle.demands.specs.Fairs.{Lacking, FitsFile, SavedAs, ChosenFor}
 use Rattle.demands.proofs.ReasonLaws.{file-reason}
 use Rattle.demands.proofs.SaveLaws.{stray-exactly}
 
@@ -48,7 +46,7 @@ use Rattle.demands.proofs.SaveLaws.{stray-exactly}
 lacks-test : (job : Job (List ℕ)) (wanted : ℕ) → Lacking job wanted → leb (2 ^ wishCount job) wanted ≡ true
 lacks-test job wanted w = stray-exactly (wishCount job) wanted .1 w
 
-fits-test : (job : Job (List ℕ)) (wanted : ℕ) → Fitting job wanted → leb (2 ^ wishCount job) wanted ≡ false
+fits-test : (job : Job (List ℕ)) (wanted : ℕ) → FitsFile job wanted → leb (2 ^ wishCount job) wanted ≡ false
 fits-test job wanted fits = not-so (leb (2 ^ wishCount job) wanted) (λ e. fits (stray-exactly (wishCount job) wanted .0 e))
   where
     not-so : (b : Bool) → (b ≡ true → ⊥) → b ≡ false
@@ -56,10 +54,10 @@ fits-test job wanted fits = not-so (leb (2 ^ wishCount job) wanted) (λ e. fits 
     not-so false h = refl
 
 -- one of the two holds
-pub lacks-or-fits : (job : Job (List ℕ)) (wanted : ℕ) → Lacking job wanted ⊎ Fitting job wanted
+pub lacks-or-fits : (job : Job (List ℕ)) (wanted : ℕ) → Lacking job wanted ⊎ FitsFile job wanted
 lacks-or-fits job wanted = go (leb (2 ^ wishCount job) wanted) refl
   where
-    go : (b : Bool) → leb (2 ^ wishCount job) wanted ≡ b → Lacking job wanted ⊎ Fitting job wanted
+    go : (b : Bool) → leb (2 ^ wishCount job) wanted ≡ b → Lacking job wanted ⊎ FitsFile job wanted
     go true e = inl (stray-exactly (wishCount job) wanted .0 e)
     go false e = inr (λ w. false≢true (sym e ∙ lacks-test job wanted w))
 
@@ -67,7 +65,7 @@ lacks-or-fits job wanted = go (leb (2 ^ wishCount job) wanted) refl
 pub answer-lacks : (job : Job (List ℕ)) (wanted : ℕ) → Lacking job wanted → orderIn job wanted ≡ refusal OrderOutsideFile 0
 answer-lacks job wanted w = ap (λ (b : Bool). unless b OrderOutsideFile (offerIn (changed (newOrder wanted) job))) (lacks-test job wanted w)
 
-pub answer-fits : (job : Job (List ℕ)) (wanted : ℕ) → Fitting job wanted → orderIn job wanted ≡ offerIn (changed (newOrder wanted) job)
+pub answer-fits : (job : Job (List ℕ)) (wanted : ℕ) → FitsFile job wanted → orderIn job wanted ≡ offerIn (changed (newOrder wanted) job)
 answer-fits job wanted fits = ap (λ (b : Bool). unless b OrderOutsideFile (offerIn (changed (newOrder wanted) job))) (fits-test job wanted fits)
 
 -- ---- the file with that order
@@ -80,39 +78,31 @@ module _ (file : List ℕ) {job : Job (List ℕ)} {end : ℕ} (e : readJob choic
   saved-by : (to : List ℕ) → saveOf file (newOrder wanted) to ≡ stored to (drafted new)
   saved-by to = ap (λ (g : Got (Job (List ℕ))). stored to (onJob g (draftIn (newOrder wanted)))) e
 
-  module _ (fits : Fitting job wanted) where
-    new-read : readJob choices new ≡ got (changed (newOrder wanted) job) (length new)
+  module _ (fits : FitsFile job wanted) where
+    order-reads : readJob choices new ≡ got (changed (newOrder wanted) job) (length new)
     unfolding choice
-    new-read =
+    order-reads =
         read-back choices (changed (newOrder wanted) job) (order-fits job ok wanted (leb-false (2 ^ wishCount job) wanted (fits-test job wanted fits))) (ap choices (ok .kind))
 
     pub new-offer : offerIn (changed (newOrder wanted) job) ≡ offerOf new
-    new-offer = sym (ap (λ (g : Got (Job (List ℕ))). onJob g (λ j. offerIn j)) new-read)
+    new-offer = sym (ap (λ (g : Got (Job (List ℕ))). onJob g (λ j. offerIn j)) order-reads)
 
     pub new-saved : SavedAs file wanted new
     new-saved to room =
-        saved-by to ∙ ap (λ (g : Got (Job (List ℕ))). stored to (onJob g (λ j. value new))) new-read
+        saved-by to ∙ ap (λ (g : Got (Job (List ℕ))). stored to (onJob g (λ j. value new))) order-reads
         ∙ ap (λ (b : Bool). leaving (λ new. new) (λ new. length new) to (afterTests (unless b ShortBuffer passed) (value new))) (le-ltb (length to) (length new) room)
 
   module _ (lacks : Lacking job wanted) (few : wanted < 2 ^ 64) where
-    new-off : readJob choices new ≡ refused AbsentMember orderPlace
-    new-off = order-off job ok wanted few (leb-true (2 ^ wishCount job) wanted (lacks-test job wanted lacks))
+    order-stops : readJob choices new ≡ refused AbsentMember orderPlace
+    order-stops = order-off job ok wanted few (leb-true (2 ^ wishCount job) wanted (lacks-test job wanted lacks))
 
     pub new-refused : said (offerOf new) ≡ refusedBy 6 3
-    new-refused = ap (λ (g : Got (Job (List ℕ))). said (onJob g (λ j. offerIn j))) new-off
+    new-refused = ap (λ (g : Got (Job (List ℕ))). said (onJob g (λ j. offerIn j))) order-stops
 
     pub new-unsaved : (to : List ℕ) → saveOf file (newOrder wanted) to .answer ≡ refusedBy 6 3
-    new-unsaved to = ap (λ l. l .answer) (saved-by to ∙ ap (λ (g : Got (Job (List ℕ))). stored to (onJob g (λ j. value new))) new-off)
+    new-unsaved to = ap (λ l. l .answer) (saved-by to ∙ ap (λ (g : Got (Job (List ℕ))). stored to (onJob g (λ j. value new))) order-stops)
 
 -- ---- what is chosen
-
--- an order as its own goal is within itself
-goal-within : (wanted : ℕ) → GoalsWithin wanted (soleGoal wanted)
-goal-within wanted = go (eqb wanted 0)
-  where
-    go : (empty : Bool) → GoalsWithin wanted (elim empty as (λ t. List ℕ) [ true ↦ [] | false ↦ wanted ∷ [] ])
-    go true = tt
-    go false = (part-refl wanted, tt)
 
 module _ (file : List ℕ) (bytes : Bytes file) {job : Job (List ℕ)} {end : ℕ} (e : readJob choices file ≡ got job end) (wanted : ℕ) where
   abbrev N : Network
@@ -122,7 +112,7 @@ module _ (file : List ℕ) (bytes : Bytes file) {job : Job (List ℕ)} {end : �
   found o = chosenOr o (setAside N (groupOf N) (soleGoal wanted)) (firstShort N (groupOf N) (full (size job)) (soleGoal wanted))
 
   -- the smallest selection for the order, or that there is none
-  pub answer-found : Fitting job wanted → orderIn job wanted ≡ found (selection N wanted 0)
+  pub answer-found : FitsFile job wanted → orderIn job wanted ≡ found (selection N wanted 0)
   answer-found fits =
       answer-fits job wanted fits ∙ ap (offerOver N) (order-new file bytes e wanted) ∙ sym (offer-is N wanted) ∙ searched-is N (groupOf N) (soleGoal wanted) wanted 0
 
@@ -133,7 +123,7 @@ module _ (file : List ℕ) (bytes : Bytes file) {job : Job (List ℕ)} {end : �
       let struck : setAside N (groupOf N) (soleGoal wanted) ≡ aside = ap (λ (l : List ℕ). getD l 2 0) r in (
         subst (λ (z : ℕ). LeastFrom (Selection N wanted) 0 z) same (the-smallest N wanted 0 y q),
         sym struck,
-        subst (λ (s : ℕ). (z u : ℕ) → Selection N wanted z → u ∈ s → u ∈ z → ⊥) struck (set-aside N (groupOf N) (groups-right N) (soleGoal wanted) (goal-within wanted)),
+        subst (λ (s : ℕ). (z u : ℕ) → Selection N wanted z → u ∈ s → u ∈ z → ⊥) struck (own-aside N wanted),
       )
 
   pub found-nothing : (o : Option ℕ) → entryOf (found o) ≡ 14 ∷ 0 ∷ 0 ∷ [] → o ≡ none

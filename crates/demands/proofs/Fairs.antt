@@ -25,7 +25,7 @@ use Rattle.fair.specs.Fair.{orderIn, entryOf, entries, fairOf}
 use Rattle.fair.proofs.EntryLaws.{entries-length, entry-at}
 use Rattle.demands.specs.Demands.{Exactly, Off, absentLayer, shortBuffer, falsePartition, absentArticle, wrongGoal, wrongGoals, highRate}
 use Rattle.demands.specs.Saving.{AfterOldFile}
-use Rattle.demands.specs.Fairs.{entryAt, Entry, Lacking, Fitting, SavedAs, ChosenFor, NoCallSays}
+use Rattle.demands.specs.Fairs.{entryAt, Entry, Lacking, FitsFile, SavedAs, ChosenFor, NoCallSays}
 use Rattle.demands.proofs.FairLaws.{lacks-or-fits, answer-lacks, answer-fits, new-offer, new-saved, new-refused, new-unsaved, answer-found, found, found-chosen, found-nothing, found-sort, found-fits, off-few, never-by}
 use Rattle.demands.proofs.Demands.{demand-1-partition, demand-1-pass, demand-1-choose, demand-1-price, demand-1-fact-layer, demand-1-round-layer, demand-1-plan, demand-1-find, demand-1-compare, demand-1-fair, demand-1-fair-kept, demand-2-fair}
 use Rattle.demands.proofs.Saving.{save-refusals}
@@ -50,19 +50,19 @@ module _ (file orders buffer : List ℕ) {job : Job (List ℕ)} {end : ℕ} (e :
 
     module _ (bytes : Bytes file) where
       -- where the order fits, there is a file that saving it writes, and the entry is the program's choice on that file
-      pub fair-fits : Fitting job wanted → (new : List ℕ) × SavedAs file wanted new × (entryAt words i ≡ entryOf (offerOf new))
+      pub fair-fits : FitsFile job wanted → (new : List ℕ) × SavedAs file wanted new × (entryAt words i ≡ entryOf (offerOf new))
       fair-fits fits =
           let ok = choice-stated file bytes e in
           (newFile (newOrder wanted) job, new-saved file e ok wanted fits, entry-is ∙ ap entryOf (answer-fits job wanted fits ∙ new-offer file e ok wanted fits))
 
-      found-entry : Fitting job wanted → entryAt words i ≡ entryOf (found file bytes e wanted (selection (networkOf job) wanted 0))
+      found-entry : FitsFile job wanted → entryAt words i ≡ entryOf (found file bytes e wanted (selection (networkOf job) wanted 0))
       found-entry fits = entry-is ∙ ap entryOf (answer-found file bytes e wanted fits)
 
       -- an entry is one of the three sorts
       pub fair-entry : Entry (entryAt words i)
       fair-entry = go (lacks-or-fits job wanted)
         where
-          go : Lacking job wanted ⊎ Fitting job wanted → Entry (entryAt words i)
+          go : Lacking job wanted ⊎ FitsFile job wanted → Entry (entryAt words i)
           go (inl lacks) = inl (entry-is ∙ ap entryOf (answer-lacks job wanted lacks))
           go (inr fits) = inr (subst (λ (l : List ℕ). (l ≡ 14 ∷ 0 ∷ 0 ∷ []) ⊎ ((x aside : ℕ) × (l ≡ 0 ∷ x ∷ aside ∷ []))) (sym (found-entry fits)) (found-sort file bytes e wanted (selection (networkOf job) wanted 0)))
 
@@ -70,7 +70,7 @@ module _ (file orders buffer : List ℕ) {job : Job (List ℕ)} {end : ℕ} (e :
       pub fair-lacks : Exactly (entryAt words i ≡ 18 ∷ 0 ∷ 0 ∷ []) (Lacking job wanted)
       fair-lacks = (λ r. go r (lacks-or-fits job wanted), λ lacks. entry-is ∙ ap entryOf (answer-lacks job wanted lacks))
         where
-          go : entryAt words i ≡ 18 ∷ 0 ∷ 0 ∷ [] → Lacking job wanted ⊎ Fitting job wanted → Lacking job wanted
+          go : entryAt words i ≡ 18 ∷ 0 ∷ 0 ∷ [] → Lacking job wanted ⊎ FitsFile job wanted → Lacking job wanted
           go r (inl lacks) = lacks
           go r (inr fits) = absurd (found-fits file bytes e wanted (selection (networkOf job) wanted 0) (sym (found-entry fits) ∙ r))
 
@@ -79,22 +79,22 @@ module _ (file orders buffer : List ℕ) {job : Job (List ℕ)} {end : ℕ} (e :
       fair-unsaved lacks few = let ok = choice-stated file bytes e in (new-refused file e ok wanted lacks few, new-unsaved file e ok wanted lacks few)
 
       -- an order whose status is not 18 fits
-      not-18 : {status x aside : ℕ} → (status ≡ 18 → ⊥) → entryAt words i ≡ status ∷ x ∷ aside ∷ [] → Fitting job wanted
+      not-18 : {status x aside : ℕ} → (status ≡ 18 → ⊥) → entryAt words i ≡ status ∷ x ∷ aside ∷ [] → FitsFile job wanted
       not-18 other r lacks = other (ap (λ (l : List ℕ). getD l 0 0) (sym r ∙ fair-lacks .1 lacks))
 
       -- 14 exactly where it fits and there is no selection for it
-      pub fair-none : Exactly (entryAt words i ≡ 14 ∷ 0 ∷ 0 ∷ []) (Fitting job wanted × ((x : ℕ) → Selection (networkOf job) wanted x → ⊥))
+      pub fair-none : Exactly (entryAt words i ≡ 14 ∷ 0 ∷ 0 ∷ []) (FitsFile job wanted × ((x : ℕ) → Selection (networkOf job) wanted x → ⊥))
       fair-none = (
         λ r.
-            let fits : Fitting job wanted = not-18 (λ z. let f : ⊥ = omega arith in f) r in
+            let fits : FitsFile job wanted = not-18 (λ z. let f : ⊥ = omega arith in f) r in
             (fits, λ x s. none-exactly (networkOf job) wanted 0 (found-nothing file bytes e wanted (selection (networkOf job) wanted 0) (sym (found-entry fits) ∙ r)) x s zero-le),
         λ (fits, h). found-entry fits ∙ ap (λ (o : Option ℕ). entryOf (found file bytes e wanted o)) (exactly-none (networkOf job) wanted 0 (λ x s k. h x s)),
       )
 
       -- with 0 it fits, and there are the smallest selection and the set aside
-      pub fair-chosen : {x aside : ℕ} → entryAt words i ≡ 0 ∷ x ∷ aside ∷ [] → Fitting job wanted × ChosenFor job wanted x aside
+      pub fair-chosen : {x aside : ℕ} → entryAt words i ≡ 0 ∷ x ∷ aside ∷ [] → FitsFile job wanted × ChosenFor job wanted x aside
       fair-chosen r =
-          let fits : Fitting job wanted = not-18 (λ z. let f : ⊥ = omega arith in f) r in
+          let fits : FitsFile job wanted = not-18 (λ z. let f : ⊥ = omega arith in f) r in
           (fits, found-chosen file bytes e wanted (selection (networkOf job) wanted 0) refl (sym (found-entry fits) ∙ r))
 
 -- an entry depends on its own order only: in another list, at another place and in another buffer it is the same

@@ -37,8 +37,8 @@ Entry words = (words ≡ 18 ∷ 0 ∷ 0 ∷ []) ⊎ ((words ≡ 14 ∷ 0 ∷ 0 �
 abbrev pub Lacking : Job (List ℕ) → ℕ → Type 0
 Lacking job wanted = (m : ℕ) × (wishCount job ≤ m) × (m ∈ wanted)
 
-abbrev pub Fitting : Job (List ℕ) → ℕ → Type 0
-Fitting job wanted = Lacking job wanted → ⊥
+abbrev pub FitsFile : Job (List ℕ) → ℕ → Type 0
+FitsFile job wanted = Lacking job wanted → ⊥
 
 -- this is the file that saving the order writes, into any buffer that has room for it; later bytes stay as they were
 abbrev pub SavedAs : List ℕ → ℕ → List ℕ → Type 0

@@ -1,13 +1,8 @@
 -- `choice::choose` meets its contract.
 use borrow.Author.Needs.{needs}
-use mathlib.Core.Path.{sym, subst}
-use mathlib.Core.List.{List}
-use Prim.Native.Nat.{ℕ}
 use native.Mathlib.Omega.{arith}
 use denote.Ref.{now}
 use lib.ListN.{getD}
-use Rattle.sets.specs.Tables.{transposed}
-use Rattle.network.specs.Tables.{Tabled}
 use Rattle.network.proofs.TableLaws.{tables-right}
 use Rattle.choice.proofs.AmongLaws.{short-chosen, among-chosen}
 use Rattle.choice.proofs.choose.Statement.{statement}
@@ -32,11 +27,7 @@ transposed-requires c κs = search needs
 among-requires : tie.Need-among-requires
 among-requires c κs =
     let e = c .before .before .before .before .before .before .before .before .before in
-    let wishes = now (e .args .wishes) in (
-      e .pre .0,
-      subst (λ (t : List ℕ). Tabled 64 wishes (c .before .before .before .both-ways .result) t) (sym (c .before .before .transposed .ensures))
-          (subst (λ (t : List ℕ). Tabled 64 wishes t (transposed 64 wishes)) (sym (c .before .before .before .both-ways .ensures)) (tables-right 64 wishes (now (e .args .clashes)))),
-    )
+    (e .pre .0, tables-right 64 (now (e .args .wishes)) (now (e .args .clashes)) (c .before .before .before .both-ways .ensures) (c .before .before .transposed .ensures))
 
 returns-2 : tie.Need-returns-2
 returns-2 c =

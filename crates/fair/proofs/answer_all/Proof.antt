@@ -1,13 +1,10 @@
 -- `fair::answer_all` meets its contract: the tables are those of the network, the groups its own, and to say clashes both ways changes no choice.
 use borrow.Author.Needs.{needs}
-use mathlib.Core.Path.{sym, subst, _∙_}
-use mathlib.Core.List.{List}
+use mathlib.Core.Path.{_∙_}
 use Prim.Native.Nat.{ℕ, _≤_}
 use denote.Ref.{now}
 use lib.ListN.{length, replicate}
-use Rattle.sets.specs.Tables.{transposed}
 use Rattle.sets.proofs.Ranges.{zeros}
-use Rattle.network.specs.Tables.{Tabled}
 use Rattle.network.proofs.TableLaws.{tables-right}
 use Rattle.choice.proofs.OfferLaws.{own-groups}
 use Rattle.fair.proofs.FairLaws.{both-answers}
@@ -38,8 +35,7 @@ answer-each-requires c κs =
     let room : job .articles ≤ length groups = search needs in (
       s .pre .0,
       room,
-      subst (λ (t : List ℕ). Tabled 64 (job .wishes) (both .result) t) (sym (c .before .before .before .before .before .before .before .before .before .transposed .ensures))
-          (subst (λ (t : List ℕ). Tabled 64 (job .wishes) t (transposed 64 (job .wishes))) (sym (both .ensures)) (tables-right 64 (job .wishes) (job .clashes))),
+      tables-right 64 (job .wishes) (job .clashes) (both .ensures) (c .before .before .before .before .before .before .before .before .before .transposed .ensures),
       own-groups 64 (job .articles) (job .wishes) (both .result) (replicate {A = ℕ} 64 0) groups (zeros 64) (c .before .before .before .before .before .before .partition .ensures),
       s .pre .1,
     )
