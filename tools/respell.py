@@ -2,7 +2,8 @@
 """Brings the names of definitions and lemmas to snake case, once, after the kit's port.py: run at the top of the repository.
 
 A word of specs/, proofs/ or a clause that is spelled `likeThis` becomes `like_this`; types, modules and facts keep their capitals. Where a lemma
-would then have the name of the function that it speaks of, it has had `_lem` put after it first.
+would then have the name of the function that it speaks of, it has had `_lem` put after it first. The crate `unicode`, named as a library of the
+kit, becomes `unicode_forms`.
 """
 import pathlib
 import re
@@ -26,12 +27,28 @@ def respelled(text, lemmas):
     return CAMEL.sub(lambda found: snake(found[0]), text)
 
 
-def main():
+def rename_crate():
+    """`unicode` under its new name: the folder, crates.txt, `use` lines and paths."""
+    old, new = pathlib.Path("crates/unicode"), pathlib.Path("crates/unicode_forms")
+    if old.exists():
+        old.rename(new)
+    listed = pathlib.Path("crates.txt")
+    listed.write_text(re.sub(r"\bunicode\b", "unicode_forms", listed.read_text()))
     for path in sorted(pathlib.Path("crates").rglob("*")):
-        if path.suffix not in (".antt", ".rt") or "out" in path.parts:
-            continue
-        text = path.read_text()
-        new = respelled(text, path.suffix == ".antt")
+        if path.suffix in (".antt", ".rt") and "out" not in path.parts:
+            text = path.read_text()
+            new_text = re.sub(r"\bRattle\.unicode\b|\bunicode(?=::)", lambda found: found[0] + "_forms", text)
+            if new_text != text:
+                path.write_text(new_text)
+
+
+def main():
+    rename_crate()
+    texts = {path: path.read_text() for path in sorted(pathlib.Path("crates").rglob("*")) if path.suffix in (".antt", ".rt") and "out" not in path.parts}
+    # Run again it changes nothing: a definition may by now have the name that a lemma had.
+    first = any(snake(word) != word for text in texts.values() for word in CAMEL.findall(text))
+    for path, text in texts.items():
+        new = respelled(text, first and path.suffix == ".antt")
         if new != text:
             path.write_text(new)
             print(path)

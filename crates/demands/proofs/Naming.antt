@@ -11,11 +11,11 @@ use native.Mathlib.Omega.{arith}
 use lib.ListN.{length, get_or}
 use Rattle.reading.specs.declared.Reason.TheVariants.{NameNotFound}
 use Rattle.reading.specs.Got.{got}
-use Rattle.unicode.specs.Utf8.{utf8, covers, covers_all}
-use Rattle.unicode.specs.Canonical.{parts, Many, Apart, Exchanged, InOrder, Decomposition}
-use Rattle.unicode.specs.Forms.{nfd}
-use Rattle.unicode.proofs.TableLaws.{fixed}
-use Rattle.unicode.proofs.EquivalenceLaws.{order-only, nfd-decomposes, decomposition-nfd}
+use Rattle.unicode_forms.specs.Utf8.{utf8, covers, covers_all}
+use Rattle.unicode_forms.specs.Canonical.{parts, Many, Apart, Exchanged, InOrder, Decomposition}
+use Rattle.unicode_forms.specs.Forms.{nfd}
+use Rattle.unicode_forms.proofs.TableLaws.{fixed}
+use Rattle.unicode_forms.proofs.EquivalenceLaws.{order-only, nfd-decomposes, decomposition-nfd}
 use Rattle.jobfile.specs.Job.{Job, names_of, size}
 use Rattle.jobfile.specs.Read.{read_job, either}
 use Rattle.jobfile.specs.Valid.{Bytes}

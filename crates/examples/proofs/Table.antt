@@ -10,9 +10,9 @@ use Rattle.reading.specs.Items.{kind_at, value_at, number_at, count_at, map_at, 
 use Rattle.jobfile.specs.Layout.{choice, fitting, kinds, layout_in}
 use Rattle.jobfile.specs.Read.{fields_at, record_at, body_at, layout_at, read, read_job}
 use Rattle.jobfile.specs.Write.{bytes_of, field_bytes, name_bytes, fields_bytes, parts_bytes, map_of, joined, write_record, write_each, write_all, write_body, write}
-use Rattle.unicode.specs.Table as Unicode
-use Rattle.unicode.specs.Canonical.{reorderable}
-use Rattle.unicode.specs.Forms as Forms
+use Rattle.unicode_forms.specs.Table as Unicode
+use Rattle.unicode_forms.specs.Canonical.{reorderable}
+use Rattle.unicode_forms.specs.Forms as Forms
 use Rattle.names.specs.Names.{same_name}
 use Rattle.changes.specs.Change.{alter}
 use Rattle.text.specs.Text.{digits, members, round_texts}

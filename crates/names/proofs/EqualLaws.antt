@@ -10,11 +10,11 @@ use lib.ListN.{length}
 use Rattle.sets.specs.Lists.{same_list}
 use Rattle.sets.proofs.Ranges.{either_true, left-true, right-true, same_true}
 use Rattle.sets.proofs.Lists.{same-list, list_same, agree}
-use Rattle.unicode.specs.Forms.{text_of, nfd, form_of, form, same_form}
-use Rattle.unicode.specs.Meaning.{short}
-use Rattle.unicode.proofs.Utf8Laws.{text-of-utf8, utf8-of-text}
-use Rattle.unicode.proofs.EquivalenceLaws.{equivalent-same, same-equivalent}
-use Rattle.unicode.proofs.LengthLaws.{bytes-twice, short-same}
+use Rattle.unicode_forms.specs.Forms.{text_of, nfd, form_of, form, same_form}
+use Rattle.unicode_forms.specs.Meaning.{short}
+use Rattle.unicode_forms.proofs.Utf8Laws.{text-of-utf8, utf8-of-text}
+use Rattle.unicode_forms.proofs.EquivalenceLaws.{equivalent-same, same-equivalent}
+use Rattle.unicode_forms.proofs.LengthLaws.{bytes-twice, short-same}
 use Rattle.names.specs.Names.{SameText, Equal, same_name}
 
 -- ---- forms

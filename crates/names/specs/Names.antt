@@ -3,9 +3,9 @@ use Rattle.std.specs.Prelude.{◌≡◌, ◌⊎◌, Bool, true, ◌||◌, List, 
 use Rattle.std.proofs.Math.Option.{Option, none}
 use Rattle.sets.specs.First.{first_from}
 use Rattle.sets.specs.Lists.{same_list}
-use Rattle.unicode.specs.Utf8.{utf8, covers_all}
-use Rattle.unicode.specs.Canonical.{Equivalent}
-use Rattle.unicode.specs.Forms.{form, same_form}
+use Rattle.unicode_forms.specs.Utf8.{utf8, covers_all}
+use Rattle.unicode_forms.specs.Canonical.{Equivalent}
+use Rattle.unicode_forms.specs.Forms.{form, same_form}
 
 -- two names are the UTF-8 of texts with covered characters only, and these are canonically equivalent
 abbrev pub SameText : List ℕ → List ℕ → Type 0

@@ -1,14 +1,14 @@
 // Names of a file that was read: when two are equal, and who has a name; and when two files are alike.
 ghost use Rattle.std.specs.Prelude.{◌≡◌, ℕ, ◌+◌, ◌≤◌, length, get_or, take, drop};
 ghost use Rattle.sets.specs.Lists.{same_list};
-ghost use Rattle.unicode.specs.Forms.{form};
-ghost use Rattle.unicode.specs.Meaning.{told, Sound, short};
+ghost use Rattle.unicode_forms.specs.Forms.{form};
+ghost use Rattle.unicode_forms.specs.Meaning.{told, Sound, short};
 ghost use Rattle.jobfile.specs.Meaning.{NamesWithin};
 ghost use Rattle.names.specs.Names.{same_name, lowest_named};
 ghost use Rattle.names.specs.Meaning.{holder_of};
 
-use unicode::form;
-use unicode::form::Form;
+use unicode_forms::form;
+use unicode_forms::form::Form;
 
 pub mod likeness;
 

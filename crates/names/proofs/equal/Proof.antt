@@ -2,8 +2,8 @@
 use borrow.Author.Rules.{rules}
 use mathlib.Core.Path.{sym, ap₂, ◌∙◌}
 use borrow.Author.Tests.{not-true}
-use Rattle.unicode.specs.Forms.{same_form}
-use Rattle.unicode.proofs.FormLaws.{told_none}
+use Rattle.unicode_forms.specs.Forms.{same_form}
+use Rattle.unicode_forms.proofs.FormLaws.{told_none}
 use Rattle.names.proofs.EqualLaws.{bytes_same, forms-same, forms-differ}
 use Rattle.names.proofs.equal.Statement.{statement}
 use Rattle.names.proofs.equal.Tie as tie

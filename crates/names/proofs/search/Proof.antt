@@ -8,8 +8,8 @@ use native.Mathlib.Omega.{arith}
 use lib.ListN.{length, get_or, take, drop}
 use Rattle.sets.specs.First.{first_from}
 use Rattle.sets.proofs.First.{first-here, first-nowhere, left-start, left-next}
-use Rattle.unicode.specs.Forms.{form}
-use Rattle.unicode.specs.Meaning.{told, Sound, short}
+use Rattle.unicode_forms.specs.Forms.{form}
+use Rattle.unicode_forms.specs.Meaning.{told, Sound, short}
 use Rattle.names.specs.Names.{same_name}
 use Rattle.names.proofs.SameLaws.{search-some, search-none, part-short}
 use Rattle.names.proofs.search.Statement.{statement}
