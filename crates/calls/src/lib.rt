@@ -3,6 +3,7 @@
 // the reasons' numbers; the calls that save test the new file between 9 and 10. A contract is one
 // equation with specs/, for every input, which fixes the answer, a refusal by its number and place, and
 // the buffer that is lent; only the words of a plan are left free, and `Buffer` says what holds of them.
+#![tactic(auto)]
 ghost use Rattle.std.specs.Prelude.{◌≡◌, ◌≤◌};
 ghost use Rattle.reading.specs.declared.Reason.TheVariants.{NameNotFound};
 ghost use Rattle.jobfile.specs.Read.{read_job, fittings};
@@ -34,7 +35,7 @@ use sets::ArticleSet;
 // ---- choice files
 
 // That the groups are written, or why they are not.
-#[derive(Drop)]
+#[derive(Clone, Copy)]
 pub enum PartitionAnswer {
     Done,
     Refused(Refusal),
@@ -59,7 +60,7 @@ pub fn partition(file: &[u8], groups: &mut [u8]) -> PartitionAnswer
 }
 
 // The live articles that are left and the sum of all contributions, or why a pass is refused.
-#[derive(Drop)]
+#[derive(Clone, Copy)]
 pub enum PassAnswer {
     Passed { live: ArticleSet, sum: u64 },
     Refused(Refusal),
@@ -92,7 +93,7 @@ pub fn pass(file: &[u8], groups: &[u8], live: ArticleSet, goal: u64) -> PassAnsw
 }
 
 // A selection with the set aside, or why there is none.
-#[derive(Drop)]
+#[derive(Clone, Copy)]
 pub enum ChoiceAnswer {
     Chosen {
         selection: ArticleSet,
@@ -163,7 +164,7 @@ pub fn offer(file: &[u8]) -> ChoiceAnswer
 // ---- fitting files
 
 // The facts of a layer, or why it is refused.
-#[derive(Drop)]
+#[derive(Clone, Copy)]
 pub enum FactsAnswer {
     Facts(u32),
     Refused(Refusal),
@@ -190,7 +191,7 @@ pub fn fact_layer(file: &[u8], k: usize, words: &mut [u32]) -> FactsAnswer
 }
 
 // The vertices of a layer, or why it is refused.
-#[derive(Drop)]
+#[derive(Clone, Copy)]
 pub enum VerticesAnswer {
     Vertices(u64),
     Refused(Refusal),
@@ -217,7 +218,7 @@ pub fn round_layer(file: &[u8], k: usize, words: &mut [u64]) -> VerticesAnswer
 }
 
 // How many rounds a plan has, or why there is none.
-#[derive(Drop)]
+#[derive(Clone, Copy)]
 pub enum PlanAnswer {
     Rounds(usize),
     Refused(Refusal),
@@ -259,7 +260,7 @@ pub fn name(file: &[u8], number: usize) -> &[u8]
 }
 
 // The number of an article or step, or why there is none.
-#[derive(Drop)]
+#[derive(Clone, Copy)]
 pub enum FindAnswer {
     Number(usize),
     Refused(Refusal),
@@ -290,7 +291,7 @@ pub fn find(file: &[u8], name: &[u8]) -> FindAnswer
 }
 
 // Whether two files are alike, or why one of them is refused.
-#[derive(Drop)]
+#[derive(Clone, Copy)]
 pub enum CompareAnswer {
     Alike,
     Unlike,
@@ -320,7 +321,7 @@ pub fn compare(first: &[u8], second: &[u8]) -> CompareAnswer
 // ---- saving
 
 // The length of the new file, or why none is written.
-#[derive(Drop)]
+#[derive(Clone, Copy)]
 pub enum SaveAnswer {
     Saved(usize),
     Refused(Refusal),

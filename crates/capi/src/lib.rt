@@ -1,6 +1,7 @@
 // The open calls for C and for all that can call C: numbers and slices only. A slice is a pointer and a
 // length there. include/kitchen.h declares what is here. Each function returns 0 for an answer and
 // the reason's number for a refusal, and always writes all words of `out`.
+#![tactic(auto)]
 ghost use Rattle.std.specs.Prelude.{◌≡◌, [], ◌∷◌};
 ghost use Rattle.reading.specs.Items.{spots};
 ghost use Rattle.reading.specs.Reasons.{number_of};

@@ -1,5 +1,6 @@
 // The choice over a mutex network: the smallest selection at or above a floor, with what the filter
 // set aside.
+#![tactic(auto)]
 ghost use Rattle.std.specs.Prelude.{◌≡◌, ◌≤◌, length, get_or};
 ghost use Rattle.network.specs.Network.{listed};
 ghost use Rattle.network.specs.Groups.{Partition};
@@ -18,7 +19,7 @@ use network::{partition, tables};
 use sets::{ArticleSet, table};
 
 // A set of articles, or that there is none.
-#[derive(Drop)]
+#[derive(Clone, Copy)]
 pub enum Found {
     Set(u64),
     Nothing,
@@ -26,7 +27,7 @@ pub enum Found {
 
 // A selection with the set aside; or that there is no selection, with the place of 14: the index of the
 // first goal that falls short, the length of the list if none does.
-#[derive(Drop)]
+#[derive(Clone, Copy)]
 pub enum Choice {
     Chosen { selection: u64, aside: u64 },
     Nothing(usize),

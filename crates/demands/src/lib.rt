@@ -1,1 +1,2 @@
 // The user's demands on the open calls: definitions and theorems, no code.
+#![tactic(auto)]

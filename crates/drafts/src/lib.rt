@@ -1,5 +1,6 @@
 // A choice file with one change, on a page of its own: written anew from what the old file was read as,
 // and read as any file is. So no test of its own decides what a new file is refused for.
+#![tactic(auto)]
 ghost use Rattle.std.specs.Prelude.{◌≡◌, ◌≤◌, ◌<◌, take};
 ghost use Rattle.jobfile.specs.Write.{write};
 ghost use Rattle.arguments.specs.Answers.{refusal};
@@ -23,7 +24,7 @@ const NO_ARTICLE: usize = 64;
 const LOOKED_AT: usize = 33;
 
 // The new file, in the first `len` bytes of the page; or why it is refused.
-#[derive(Drop)]
+#[derive(Clone, Copy)]
 pub struct Draft {
     pub verdict: Verdict,
     pub len: usize,

@@ -1,1 +1,2 @@
 // The examples of the rules: definitions and a proof, no code.
+#![tactic(auto)]

@@ -1,4 +1,5 @@
 // Plan extraction over round layers: from the goal back to the start, round by round.
+#![tactic(auto)]
 ghost use Rattle.std.specs.Prelude.{◌≡◌, ◌&&◌, ◌/◌, ◌^◌, ◌≤◌, eqb, length};
 ghost use Rattle.sets.specs.Sets.{◌⊆◌};
 ghost use Rattle.extraction.specs.Extraction.{all_facts, graph, Fine, Nogoods, Unreached, Extracted};
@@ -19,7 +20,7 @@ const FIRST_STEP: usize = 32;
 const FEW: u32 = 3;
 
 // A plan, or facts that are refuted.
-#[derive(Drop)]
+#[derive(Clone, Copy)]
 pub enum Extraction {
     Made,
     Refuted(u64),

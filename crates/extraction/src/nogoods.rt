@@ -18,7 +18,7 @@ const MANY: u64 = 1024;
 const ROUND: u64 = 0x1_0000_0000;
 
 // What the table knows of some facts: a nogood that is a part of them, or nothing.
-#[derive(Drop)]
+#[derive(Clone, Copy)]
 pub enum Known {
     Nogood(u64),
     Nothing,

@@ -1,6 +1,7 @@
 // The open call for a fair's orders: many orders against one choice file. It takes the bytes of the file,
 // the orders and the buffer as they come: it requires nothing. The file is read once, and what does not
 // hang on an order is made once.
+#![tactic(auto)]
 ghost use Rattle.std.specs.Prelude.{◌≡◌, [], ◌∷◌, ◌++◌, ◌*◌, ◌≤◌, ◌<◌, length, get_or, drop};
 ghost use Rattle.network.specs.Network.{listed};
 ghost use Rattle.network.specs.Groups.{group_of};
@@ -19,7 +20,7 @@ use sets::{ArticleSet, table, word};
 const ENTRY_WORDS: usize = 3;
 
 // That every order has its entry, or why none has.
-#[derive(Drop)]
+#[derive(Clone, Copy)]
 pub enum FairAnswer {
     Done,
     Refused(Refusal),

@@ -7,7 +7,7 @@ ghost use Rattle.filter.specs.Meaning.{goals_by};
 use sets::word;
 
 // Whether all goals are in order.
-#[derive(Drop)]
+#[derive(Clone, Copy)]
 pub enum Goals {
     Right,
     Bad(usize),

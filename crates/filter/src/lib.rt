@@ -1,4 +1,5 @@
 // The projection filter on words, and what is lent to it.
+#![tactic(auto)]
 ghost use Rattle.std.specs.Prelude.{◌≡◌, ◌&&◌, [], ℕ, ◌+◌, ◌≤◌, ◌<◌, max, leb, length, get_or};
 ghost use Rattle.std.specs.Int.Bits.{bit_and};
 ghost use Rattle.sets.specs.Ranges.{given, sum_to, list_to};
@@ -88,7 +89,7 @@ fn stays(wishes: &[u64; 64], v: usize, live: u64, goal: u64, want: u64, rest: u6
 }
 
 // What comes of a pass: the articles that it leaves live, and what all groups contributed to its goal.
-#[derive(Drop)]
+#[derive(Clone, Copy)]
 pub struct Passed {
     pub live: u64,
     pub sum: u64,

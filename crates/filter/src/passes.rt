@@ -16,7 +16,7 @@ fn goal_at(goals: &[u64], i: usize) -> u64
 
 // How far the passes come: to the first goal that falls short, or to the end of the list; and what is
 // live there.
-#[derive(Drop)]
+#[derive(Clone, Copy)]
 pub struct Reached {
     pub live: u64,
     pub short: usize,

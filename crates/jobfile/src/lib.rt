@@ -1,6 +1,7 @@
 // Job files: what a file states, or why it is refused and where.
 //
 // The formats are in specs/Layout.antt, as tables, and what reading gives is in specs/Read.antt.
+#![tactic(auto)]
 ghost use Rattle.std.specs.Prelude.{◌≡◌, ◌+◌, ◌≤◌, eqb, length, get_or};
 ghost use Rattle.reading.specs.Got.{refused};
 ghost use Rattle.reading.specs.Items.{spots};
@@ -38,7 +39,7 @@ const HORIZON: u64 = 16;
 const ELEMENTS: usize = 64;
 
 // Whether a file is accepted.
-#[derive(Drop)]
+#[derive(Clone, Copy)]
 pub enum Verdict {
     Accepted,
     Refused(Refusal),
@@ -46,7 +47,7 @@ pub enum Verdict {
 
 // A choice file as read. The arrays have an element for each article, and 0 after the last. If the
 // file is refused, all but the verdict is 0.
-#[derive(Drop)]
+#[derive(Clone, Copy)]
 pub struct ReadChoice {
     pub verdict: Verdict,
     pub articles: usize,
@@ -60,7 +61,7 @@ pub struct ReadChoice {
 }
 
 // A fitting file as read, likewise, with an element for each step.
-#[derive(Drop)]
+#[derive(Clone, Copy)]
 pub struct ReadFitting {
     pub verdict: Verdict,
     pub steps: usize,
@@ -77,7 +78,7 @@ pub struct ReadFitting {
 
 // The names of a file of either kind as read, likewise: how many articles or steps there are, and where
 // the name of each is.
-#[derive(Drop)]
+#[derive(Clone, Copy)]
 pub struct ReadNames {
     pub verdict: Verdict,
     pub count: usize,

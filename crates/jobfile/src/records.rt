@@ -31,7 +31,7 @@ const ARTICLE_FIELDS: usize = 4;
 const STEP_FIELDS: usize = 4;
 
 // Which kind of file records are of.
-#[derive(Drop)]
+#[derive(Clone, Copy)]
 pub enum Kind {
     Choice,
     Fitting,
@@ -39,7 +39,7 @@ pub enum Kind {
 
 // A record as it is read: its sets in the order of their bits, and its name. The third number of an
 // article is its price.
-#[derive(Drop)]
+#[derive(Clone, Copy)]
 pub struct ReadRecord {
     pub first: u64,
     pub second: u64,
@@ -112,7 +112,7 @@ fn read_record(file: &[u8], from: Cursor, kind: Kind, count: usize, own: usize) 
 }
 
 // All records, a column for each number and for the places of the names.
-#[derive(Drop)]
+#[derive(Clone, Copy)]
 pub struct Records {
     pub first: [u64; 64],
     pub second: [u64; 64],

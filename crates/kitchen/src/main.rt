@@ -1,4 +1,5 @@
 // The program: reads a job file from standard input and prints what comes of it.
+#![tactic(auto)]
 use libc::{STDIN_FILENO, STDOUT_FILENO};
 
 // The bytes that are read at most: no job file has as many.

@@ -1,5 +1,6 @@
 // The layers of the planning graph on words of 64 bits: one from the one below it, and those of a fitting
 // file as read by their number.
+#![tactic(auto)]
 ghost use Rattle.std.specs.Prelude.{◌≡◌, true, false, [], ℕ, ◌+◌, ◌^◌, ◌≤◌, ◌<◌, get_or};
 ghost use Rattle.sets.specs.Ranges.{list_to};
 ghost use Rattle.planning.specs.Rounds.{listed_steps};
@@ -26,7 +27,7 @@ const ALL_FACTS: u64 = 0xffff_ffff;
 const VERTICES: usize = 64;
 
 // The members of a layer, and for each of them those that it is mutex with.
-#[derive(Drop)]
+#[derive(Clone, Copy)]
 pub struct Layer {
     pub members: u64,
     pub words: [u64; 64],

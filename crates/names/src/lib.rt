@@ -1,4 +1,5 @@
 // Names of a file that was read: when two are equal, and who has a name; and when two files are alike.
+#![tactic(auto)]
 ghost use Rattle.std.specs.Prelude.{◌≡◌, ℕ, ◌+◌, ◌≤◌, length, get_or, take, drop};
 ghost use Rattle.sets.specs.Lists.{same_list};
 ghost use Rattle.unicode_forms.specs.Forms.{form};
@@ -13,7 +14,7 @@ use unicode_forms::form::Form;
 pub mod likeness;
 
 // The number of an article or step, or that none has the name.
-#[derive(Drop)]
+#[derive(Clone, Copy)]
 pub enum Holder {
     Number(usize),
     Nobody,

@@ -6,7 +6,7 @@ ghost use Rattle.network.specs.Groups.{misplaced, first_misplaced, grouped};
 ghost use Rattle.network.specs.Meaning.{lent_by};
 
 // Whether a lent partition is one.
-#[derive(Drop)]
+#[derive(Clone, Copy)]
 pub enum Lent {
     Right,
     Misplaced(usize),

@@ -1,5 +1,6 @@
 // The planner: the fewest rounds in which the goal of a fitting can be reached, and the rounds of such a
 // plan.
+#![tactic(auto)]
 ghost use Rattle.std.specs.Prelude.{◌≡◌, ◌≤◌, length};
 ghost use Rattle.planning.specs.Rounds.{fewest};
 ghost use Rattle.planning.specs.Back.{Sized};
@@ -16,7 +17,7 @@ use jobfile::ReadFitting;
 const HORIZON: usize = 16;
 
 // How many rounds a plan has, or that there is no plan.
-#[derive(Drop)]
+#[derive(Clone, Copy)]
 pub enum Planned {
     Rounds(usize),
     Nothing,

@@ -15,7 +15,7 @@ use supports::ROW;
 const WORDS: usize = ROW * HORIZON;
 
 // The vertices of each round layer, and its mutex words.
-#[derive(Drop)]
+#[derive(Clone, Copy)]
 pub struct RoundLayers {
     pub members: [u64; HORIZON],
     pub words: [u64; WORDS],

@@ -1,5 +1,6 @@
 // Steps lead to states, which are sets of facts. What none of these states holds, no plan reaches. The
 // states are listed one after the other, each with what its steps lead to, as long as there is room.
+#![tactic(auto)]
 ghost use Rattle.std.specs.Prelude.{◌≡◌, ◌≢◌, ◌≤◌, ◌<◌, length};
 ghost use Rattle.std.specs.Int.Bits.{bit_or};
 ghost use Rattle.sets.specs.Sets.{without};
@@ -31,7 +32,7 @@ const LOWEST: u64 = 0x100_0000;
 
 // What the table of slots says of a state: it is listed, it may be entered at a slot, or there is no
 // free slot near by.
-#[derive(Drop)]
+#[derive(Clone, Copy)]
 enum Place {
     Known,
     Free(usize),

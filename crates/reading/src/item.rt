@@ -10,21 +10,21 @@ use crate::{Reason, Refusal, Spot};
 use sets::word;
 
 // Where reading is: at a position of the file, or refused.
-#[derive(Drop)]
+#[derive(Clone, Copy)]
 pub enum Cursor {
     At(usize),
     Refused(Refusal),
 }
 
 // A number that was read, and where reading is after it. If reading is refused, the number is 0.
-#[derive(Drop)]
+#[derive(Clone, Copy)]
 pub struct Item {
     pub value: u64,
     pub next: Cursor,
 }
 
 // A name that was read: where it is in the file.
-#[derive(Drop)]
+#[derive(Clone, Copy)]
 pub struct Named {
     pub spot: Spot,
     pub next: Cursor,

@@ -1,11 +1,12 @@
 // Reading items at positions of a file: the reasons to turn a call down, and each item with its tests.
+#![tactic(auto)]
 ghost use Rattle.std.specs.Prelude.{◌≡◌};
 ghost use Rattle.reading.specs.Reasons.{number_of};
 
 pub mod item;
 
 // Why a call is turned down. The rules' number of each is in specs/Reasons.antt.
-#[derive(Drop)]
+#[derive(Clone, Copy)]
 pub enum Reason {
     WrongKind,
     EndsEarly,
@@ -28,7 +29,7 @@ pub enum Reason {
 }
 
 // A reason, and the place that the rules give it.
-#[derive(Drop)]
+#[derive(Clone, Copy)]
 pub struct Refusal {
     pub reason: Reason,
     pub place: usize,
@@ -45,7 +46,7 @@ pub fn refusal_at(reason: Reason, place: usize) -> Refusal
 }
 
 // Where the bytes of a name are in a file: 0 and 0 if there is none.
-#[derive(Drop)]
+#[derive(Clone, Copy)]
 pub struct Spot {
     pub start: usize,
     pub len: usize,

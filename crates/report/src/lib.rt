@@ -1,4 +1,5 @@
 // What the program does with a file, and the text that it prints.
+#![tactic(auto)]
 ghost use Rattle.std.specs.Prelude.{◌≡◌};
 ghost use Rattle.text.specs.Meaning.{shown};
 ghost use Rattle.arguments.specs.Answers.{said};
@@ -11,7 +12,7 @@ use sets::ArticleSet;
 use text::{HORIZON, Page};
 
 // What comes of a file: a selection with the set aside, how many rounds a plan has, or a refusal.
-#[derive(Drop)]
+#[derive(Clone, Copy)]
 pub enum OutcomeAnswer {
     Chosen {
         selection: ArticleSet,

@@ -2,6 +2,8 @@
 //
 // A set is a number: bit i is 1 if i is a member. The definitions are in specs/, for any width; here
 // they meet words of 64 bits.
+#![tactic(auto)]
+
 ghost use Rattle.std.specs.Prelude.{◌≡◌, cond, ◌^◌, ltb};
 ghost use Rattle.sets.specs.Sets.{member, count};
 ghost use Rattle.sets.specs.Articles.{taking, giving_up};
@@ -22,7 +24,7 @@ fn alone(article: usize) -> u64
 
 // A set of articles, by value: each method that changes it hands the new set back. No method
 // requires anything: a number at or above the capacity is no member and changes nothing.
-#[derive(Drop)]
+#[derive(Clone, Copy)]
 pub struct ArticleSet {
     pub bits: u64,
 }

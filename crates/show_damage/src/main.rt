@@ -1,5 +1,6 @@
 // Shows what becomes of a file that is cut short or has one bit changed, and the names that a file has.
 // reference/damage.py prints the same text from rules of its own.
+#![tactic(auto)]
 ghost use Rattle.std.specs.Prelude.{◌<◌, length};
 
 use jobfile::Verdict;

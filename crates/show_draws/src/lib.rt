@@ -1,4 +1,5 @@
 // Drawn numbers and sets: the same ones in every run.
+#![tactic(auto)]
 ghost use Rattle.std.specs.Prelude.{◌<◌, ◌≤◌};
 
 use sets::word;
@@ -19,7 +20,7 @@ pub fn below(x: u64, n: u64) -> u64
 }
 
 // A set, and where the generator is after it.
-#[derive(Drop)]
+#[derive(Clone, Copy)]
 pub struct Draw {
     pub set: u64,
     pub x: u64,

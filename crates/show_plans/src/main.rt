@@ -2,6 +2,7 @@
 // the shortest plans comes back is free. So a plan is tried by the rules, and its rounds are printed
 // only if no other plan is as short. reference/plans.py prints the same text from a search of its
 // own.
+#![tactic(auto)]
 ghost use Rattle.std.specs.Prelude.{◌≤◌};
 
 use calls::PlanAnswer;

@@ -1,4 +1,5 @@
 // What the programs that show print with.
+#![tactic(auto)]
 use libc::STDOUT_FILENO;
 use sets::word;
 

@@ -1,10 +1,11 @@
 // Puzzles whose steps follow from their numbers.
+#![tactic(auto)]
 ghost use Rattle.std.specs.Prelude.{◌≤◌, ◌<◌};
 
 use sets::word;
 use show_trials::{Job, Step};
 
-#[derive(Drop)]
+#[derive(Clone, Copy)]
 pub enum Puzzle {
     Row,
     Tower,

@@ -1,5 +1,6 @@
 // Shows how many rounds the planner answers for 300 small drawn jobs, and how often it answers each
 // count. reference/random_plans.py prints the same text by trying every round.
+#![tactic(auto)]
 ghost use Rattle.std.specs.Prelude.{◌<◌};
 
 use calls::PlanAnswer;
@@ -17,14 +18,14 @@ const SORTS: usize = 7;
 const REFUSED: usize = 6;
 
 // A step, and where the generator is after it.
-#[derive(Drop)]
+#[derive(Clone, Copy)]
 struct DrawnStep {
     step: Step,
     x: u64,
 }
 
 // A job, and where the generator is after it.
-#[derive(Drop)]
+#[derive(Clone, Copy)]
 struct DrawnJob {
     job: Job,
     x: u64,

@@ -1,5 +1,6 @@
 // Shows the set operations at their edges: the numbers 0, 63, 64, 2^32 and 2^63, and the empty and
 // the full set. reference/sets.py prints the same text from sets of its own.
+#![tactic(auto)]
 use sets::{ArticleSet, word};
 
 // A set as its number and its count.

@@ -7,7 +7,7 @@ use crate::{Job, STEPS};
 const LONGEST: usize = 428;
 
 // A file: its bytes, and how many of them there are.
-#[derive(Drop)]
+#[derive(Clone, Copy)]
 pub struct File {
     pub bytes: [u8; LONGEST],
     pub len: usize,

@@ -1,5 +1,6 @@
 // Fittings that a program makes up: the job and its file, what the planner answers to it, and whether
 // that is right.
+#![tactic(auto)]
 mod file;
 pub mod rounds;
 
@@ -15,7 +16,7 @@ const STEPS: u8 = 32;
 pub const WORDS: usize = 16;
 
 // What a step needs, gives and takes.
-#[derive(Drop)]
+#[derive(Clone, Copy)]
 pub struct Step {
     pub needs: u64,
     pub gives: u64,
@@ -33,7 +34,7 @@ impl Step {
 }
 
 // A fitting. The arrays have an element for each step, and 0 after the last.
-#[derive(Drop)]
+#[derive(Clone, Copy)]
 pub struct Job {
     pub steps: u8,
     pub facts: u8,

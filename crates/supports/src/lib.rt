@@ -1,6 +1,7 @@
 // What plan extraction asks of one round layer: which of its vertices the facts open, a selection of it
 // for the facts (supporting actions, with keepers for no-ops), and facts that no selection covers. Each
 // question is one of the choice's.
+#![tactic(auto)]
 ghost use Rattle.std.specs.Prelude.{◌≡◌, ℕ, ◌+◌, ◌*◌, ◌≤◌, ◌<◌, length, get_or};
 ghost use Rattle.sets.specs.Sets.{bit, ◌⊆◌, part};
 ghost use Rattle.network.specs.Network.{listed, Cover};

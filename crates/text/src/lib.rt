@@ -1,5 +1,6 @@
 // The text that the program prints, made on a page of its own. A page that is full stays as it is, so
 // that nothing is required of it; the texts of an outcome are all shorter.
+#![tactic(auto)]
 ghost use Rattle.std.specs.Prelude.{◌≡◌, cond, [], ◌∷◌, ◌+◌, ◌≤◌, ◌<◌, take};
 ghost use Rattle.sets.specs.Sets.{member};
 ghost use Rattle.text.specs.Text.{decimal, members, refused_text, chosen_text, round_text, rounds_text};
@@ -35,7 +36,7 @@ const NEWLINE: u8 = 10;
 const TEN: u64 = 10;
 
 // The bytes of a text are the first `len`.
-#[derive(Drop)]
+#[derive(Clone, Copy)]
 pub struct Page {
     pub bytes: [u8; ROOM],
     pub len: usize,

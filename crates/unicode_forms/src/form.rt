@@ -14,7 +14,7 @@ const ROOM: usize = 32;
 
 // Covered characters in canonical order, the first `count`. Without `known` there is no form: the bytes
 // have no text, or it has more characters than there is room for.
-#[derive(Drop)]
+#[derive(Clone, Copy)]
 pub struct Form {
     pub known: bool,
     pub count: usize,

@@ -5,7 +5,7 @@ ghost use Rattle.unicode_forms.specs.Forms.{is_pair};
 ghost use Rattle.unicode_forms.specs.Meaning.{Read};
 
 // A covered character, and how many bytes it has; 0 says that there is none.
-#[derive(Drop)]
+#[derive(Clone, Copy)]
 pub struct Char {
     pub code: u16,
     pub size: usize,

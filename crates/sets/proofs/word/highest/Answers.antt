@@ -4,22 +4,18 @@ use Prim.Native.Nat.{ℕ, suc, ◌-◌, ◌^◌, ◌≤◌, ◌<◌}
 use mathlib.Core.Path.{◌≡◌, subst}
 use native.Mathlib.Omega.{arith}
 use lib.Count.{count_leading_zeros, leading_le, leading_top}
-use Rattle.sets.proofs.word.highest.Statement.{statement}
-use Rattle.sets.proofs.word.highest.Tie as tie
+use Rattle.sets.proofs.word.highest.Goals as goal
 
-cast-result : tie.Need-overflow-cast-result
-cast-result c = omega (arith, leading_le 64 c.args.s)
+pub overflow_cast-result : goal.overflow_cast-result
+overflow_cast-result c = omega (arith, leading_le 64 c.args.s)
 
-sub-result : tie.Need-overflow-sub-result
-sub-result c =
+pub overflow_sub-result : goal.overflow_sub-result
+overflow_sub-result c =
     let (j, e, low, high) = leading_top 64 c.args.s (omega (arith, c.requires)) (search rules) in
     omega (arith, e)
 
-returns : tie.Need-returns
+pub returns : goal.returns
 returns c =
     let (j, e, low, high) = leading_top 64 c.args.s (omega (arith, c.requires)) (search rules) in
     let same : j ≡ 63 - count_leading_zeros 64 c.args.s = omega (arith, e) in
     subst (λ (r : ℕ). (r < 64) × (2 ^ r ≤ c.args.s) × (c.args.s < 2 ^ suc r)) same (omega (arith, e), low, high)
-
-pub highest-spec : {M : Type 1} → statement M
-highest-spec = tie.close (tie.spec cast-result sub-result returns)
