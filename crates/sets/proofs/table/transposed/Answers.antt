@@ -1,6 +1,6 @@
 use borrow.Author.Rules.{rules}
 use mathlib.Core.Path.{◌≡◌, ap, ◌∙◌}
-use Prim.Native.Nat.{ℕ, ◌-◌, ◌≤◌}
+use Prim.Native.Nat.{ℕ}
 use native.Mathlib.Omega.{arith}
 use lib.ListN.{length}
 use Rattle.sets.specs.Ranges.{list_to}
@@ -20,7 +20,7 @@ mark-requires c =
 pub loop-j-preserved : goal.loop-j-preserved
 loop-j-preserved c =
     let l = c.loop-j in
-    (omega (arith, c.loop-j-test.true), turned_turn 64 c.args.table.now l.turned c.mark.new.0 l.j l.invariant.1 c.mark.ensures)
+    (omega (arith, c.loop-j-test.true), turned_turn 64 c.args.table.now l.turned c.mark.new.turned l.j l.invariant.1 c.mark.ensures)
 
 pub returns : goal.returns
 unfolding transposed

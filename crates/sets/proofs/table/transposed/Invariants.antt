@@ -1,13 +1,8 @@
 -- `sets::table::transposed` meets its contract. The invariant: each row has those numbers below j whose row has it. The measure is how many rows are left.
-use borrow.Author.Rules.{rules}
-use mathlib.Core.Path.{◌≡◌, ap, ◌∙◌}
-use Prim.Native.Nat.{ℕ, ◌-◌, ◌≤◌}
-use native.Mathlib.Omega.{arith}
-use lib.ListN.{length}
+use mathlib.Core.Path.{◌≡◌}
+use Prim.Native.Nat.{◌-◌, ◌≤◌}
 use Rattle.sets.specs.Ranges.{list_to}
-use Rattle.sets.proofs.Ranges.{list_length}
-use Rattle.sets.specs.Tables.{transposed}
-use Rattle.sets.proofs.Tables.{turned_row, turned-start, turned_turn}
+use Rattle.sets.proofs.Tables.{turned_row}
 use Rattle.sets.proofs.table.transposed.Given as goal
 
 abbrev pub invariant-loop-j : goal.invariant-loop-j
