@@ -15,7 +15,6 @@ use Rattle.reading.specs.declared.Reason.TheVariants.{WrongKind, EndsEarly}
 use Rattle.reading.specs.declared.Refusal.{Refusal}
 use Rattle.reading.specs.declared.Spot.{Spot}
 use Rattle.reading.specs.declared.item.Cursor.{Cursor}
-use Rattle.reading.specs.declared.item.Cursor.TheVariants as Cursor
 use Rattle.reading.specs.declared.item.Item.{Item}
 use Rattle.reading.specs.Got.{Got, got, refused, Reader, refuse, and_then, checked, optional, each_at}
 use Rattle.reading.specs.Items.{kind_at, value_at, number_at, length_at, name_at, spots}

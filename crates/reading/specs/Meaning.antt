@@ -4,7 +4,6 @@ use Rattle.reading.specs.declared.Reason.{Reason}
 use Rattle.reading.specs.declared.Reason.TheVariants.{TrailingBytes}
 use Rattle.reading.specs.declared.Spot.{Spot}
 use Rattle.reading.specs.declared.item.Cursor.{Cursor}
-use Rattle.reading.specs.declared.item.Cursor.TheVariants as Cursor
 use Rattle.reading.specs.declared.item.Item.{Item}
 use Rattle.reading.specs.declared.item.Named.{Named}
 use Rattle.reading.specs.Got.{Got, got, refused}

@@ -1,5 +1,6 @@
 // Reading items at positions of a file: the reasons to turn a call down, and each item with its tests.
 #![tactic(auto)]
+
 ghost use Rattle.std.specs.Prelude.{◌≡◌};
 ghost use Rattle.reading.specs.Reasons.{number_of};
 
