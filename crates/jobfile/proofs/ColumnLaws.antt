@@ -13,7 +13,6 @@ use Rattle.sets.proofs.Ranges.{list-cong, list-turn, zeros}
 use Rattle.sets.proofs.Filled.{past-turn}
 use Rattle.reading.specs.declared.Spot.{Spot}
 use Rattle.reading.specs.declared.item.Cursor.{Cursor}
-use Rattle.reading.specs.declared.item.Cursor.TheVariants as Cursor
 use Rattle.jobfile.specs.declared.records.Kind.{Kind}
 use Rattle.jobfile.specs.declared.records.ReadRecord.{ReadRecord}
 use Rattle.jobfile.specs.declared.records.Records.{Records}

@@ -9,7 +9,6 @@ use lib.ListN.{length, get_or}
 use Rattle.sets.specs.Sets.{member}
 use Rattle.reading.specs.declared.Reason.TheVariants.{TrailingBytes}
 use Rattle.reading.specs.declared.item.Cursor.{Cursor}
-use Rattle.reading.specs.declared.item.Cursor.TheVariants as Cursor
 use Rattle.reading.specs.Got.{got, refuse, and_then, optional, each_at, up_from}
 use Rattle.reading.specs.Items.{Naming, kind_at, count_at, map_at, set_at, name_at}
 use Rattle.jobfile.specs.Layout.{Field, Layout, name_bit, bits, layout_of}

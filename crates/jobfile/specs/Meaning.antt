@@ -10,7 +10,6 @@ use Rattle.reading.specs.Got.{Got, got, refused}
 use Rattle.reading.specs.Meaning.{got_by}
 use Rattle.jobfile.specs.Layout.{Layout, choice, fitting}
 use Rattle.jobfile.specs.declared.Verdict.{Verdict}
-use Rattle.jobfile.specs.declared.Verdict.TheVariants as Verdict
 use Rattle.jobfile.specs.declared.ReadChoice.{ReadChoice}
 use Rattle.jobfile.specs.declared.ReadFitting.{ReadFitting}
 use Rattle.jobfile.specs.declared.ReadNames.{ReadNames}

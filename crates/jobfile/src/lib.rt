@@ -2,6 +2,7 @@
 //
 // The formats are in specs/Layout.antt, as tables, and what reading gives is in specs/Read.antt.
 #![tactic(auto)]
+
 ghost use Rattle.std.specs.Prelude.{◌≡◌, ◌+◌, ◌≤◌, eqb, length, get_or};
 ghost use Rattle.reading.specs.Got.{refused};
 ghost use Rattle.reading.specs.Items.{spots};
