@@ -2,7 +2,6 @@
 use Rattle.std.proofs.Math.Option.{Option, none, some}
 use Rattle.std.specs.Prelude.{ℕ}
 use Rattle.filter.specs.declared.goals.Goals.{Goals}
-use Rattle.filter.specs.declared.goals.Goals.TheVariants as Goals
 
 -- reason 13 by its place, or none
 abbrev pub goals_by : Option ℕ → Goals

@@ -1,5 +1,6 @@
 // The projection filter on words, and what is lent to it.
 #![tactic(auto)]
+
 ghost use Rattle.std.specs.Prelude.{◌≡◌, ◌&&◌, [], ℕ, ◌+◌, ◌≤◌, ◌<◌, max, leb, length, get_or};
 ghost use Rattle.std.specs.Int.Bits.{bit_and};
 ghost use Rattle.sets.specs.Ranges.{given, sum_to, list_to};

@@ -1,5 +1,4 @@
 -- `filter::goals::outside` meets its contract.
-use borrow.Author.Rules.{rules}
 use mathlib.Core.Path.{◌∙◌}
 use Prim.Native.Nat.{◌<◌, ◌^◌}
 use native.Mathlib.Omega.{arith}
@@ -7,17 +6,10 @@ use lib.Pow.{pow_pos}
 use borrow.Author.Tests.{le-leb, lt-leb}
 use Rattle.filter.proofs.PassLaws.{same_test}
 use Rattle.filter.proofs.GoalLaws.{outside-is}
-use Rattle.filter.proofs.goals.outside.Statement.{statement}
-use Rattle.filter.proofs.goals.outside.Tie as tie
+use Rattle.filter.proofs.goals.outside.Goals as goal
 
-exceeds-requires : tie.Need-exceeds-requires
-exceeds-requires c κs = search rules
-
-returns : tie.Need-returns
+pub returns : goal.returns
 returns c =
-    let a = c.before.args in
+    let a = c.args in
     let some : 0 < 2 ^ a.n = pow_pos a.n in
     c.exceeds.ensures ∙ same_test _ (2 ^ a.n) a.live (λ h. omega (arith, le-leb, some)) (λ h. omega (arith, lt-leb)) ∙ outside-is a.n a.live
-
-pub outside-spec : {M : Type 1} → statement M
-outside-spec = tie.close (tie.spec exceeds-requires returns)
