@@ -1,6 +1,7 @@
 // The choice over a mutex network: the smallest selection at or above a floor, with what the filter
 // set aside.
 #![tactic(auto)]
+
 ghost use Rattle.std.specs.Prelude.{◌≡◌, ◌≤◌, length, get_or};
 ghost use Rattle.network.specs.Network.{listed};
 ghost use Rattle.network.specs.Groups.{Partition};
