@@ -1,5 +1,6 @@
 // Texts by their characters: UTF-8, canonical decomposition and canonical order (Unicode Standard Annex 15).
 #![tactic(auto)]
+
 pub mod form;
 pub mod order;
 pub mod table;
