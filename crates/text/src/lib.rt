@@ -1,6 +1,7 @@
 // The text that the program prints, made on a page of its own. A page that is full stays as it is, so
 // that nothing is required of it; the texts of an outcome are all shorter.
 #![tactic(auto)]
+
 ghost use Rattle.std.specs.Prelude.{◌≡◌, cond, [], ◌∷◌, ◌+◌, ◌≤◌, ◌<◌, take};
 ghost use Rattle.sets.specs.Sets.{member};
 ghost use Rattle.text.specs.Text.{decimal, members, refused_text, chosen_text, round_text, rounds_text};

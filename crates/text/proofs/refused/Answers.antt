@@ -1,0 +1,9 @@
+-- `text::refused` meets its contract: its five parts come one after the other, and there is room for them.
+use borrow.Author.Rules.{rules}
+use Rattle.text.proofs.TextLaws.{five-parts, refused-fits}
+use Rattle.text.proofs.refused.Goals as goal
+
+pub returns : goal.returns
+returns c =
+    let v = c.args in
+    five-parts 2048 _ _ _ _ _ _ _ _ _ c.empty.ensures c.say-a.ensures c.number-b.ensures c.say-c.ensures c.number-d.ensures _ _ c.put.ensures (refused-fits v.reason v.place (search rules) (search rules))
