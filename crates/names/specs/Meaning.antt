@@ -2,7 +2,6 @@
 use Rattle.std.proofs.Math.Option.{Option, none, some}
 use Rattle.std.specs.Prelude.{ℕ}
 use Rattle.names.specs.declared.Holder.{Holder}
-use Rattle.names.specs.declared.Holder.TheVariants as Holder
 
 -- the number of who has a name
 abbrev pub holder_of : Holder → Option ℕ

@@ -1,5 +1,6 @@
 // Names of a file that was read: when two are equal, and who has a name; and when two files are alike.
 #![tactic(auto)]
+
 ghost use Rattle.std.specs.Prelude.{◌≡◌, ℕ, ◌+◌, ◌≤◌, length, get_or, take, drop};
 ghost use Rattle.sets.specs.Lists.{same_list};
 ghost use Rattle.unicode_forms.specs.Forms.{form};

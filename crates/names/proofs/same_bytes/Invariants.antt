@@ -1,0 +1,11 @@
+-- `names::same_bytes` meets its contract. The invariant: the bytes before i are the same.
+use mathlib.Core.Path.{◌≡◌}
+use Prim.Native.Nat.{ℕ, ◌-◌, ◌≤◌, ◌<◌}
+use lib.ListN.{length, get_or}
+use Rattle.names.proofs.same_bytes.Given as goal
+
+abbrev pub invariant-loop-i : goal.invariant-loop-i
+invariant-loop-i l = (l.i ≤ l.n) × (length l.a ≡ l.n) × (length l.b ≡ l.n) × ((j : ℕ) → j < l.i → get_or l.a j 0 ≡ get_or l.b j 0)
+
+abbrev pub decreases-loop-i : goal.decreases-loop-i
+decreases-loop-i l = l.n - l.i
