@@ -1,5 +1,6 @@
 // Writing a choice file into a page, item by item. Each function returns the place after what it put.
 #![tactic(auto)]
+
 ghost use Rattle.std.specs.Prelude.{◌≡◌, not, cond, [], ◌∷◌, ◌+◌, ◌*◌, ◌≤◌, ◌<◌, length, take, drop};
 ghost use Rattle.sets.specs.Ranges.{num, list_to};
 ghost use Rattle.jobfile.specs.Layout.{choice};
