@@ -13,7 +13,6 @@ use Rattle.reading.specs.Items.{spots}
 use Rattle.reading.specs.Reasons.{number_of}
 use Rattle.reading.proofs.Reasons.{number-tells}
 use Rattle.jobfile.specs.declared.Verdict.{Verdict}
-use Rattle.jobfile.specs.declared.Verdict.TheVariants as Verdict
 use Rattle.jobfile.specs.Job.{Job}
 use Rattle.jobfile.specs.Meaning.{choice_read, fitting_read, names_read}
 use Rattle.jobfile.specs.Read.{read, read_job, choices}

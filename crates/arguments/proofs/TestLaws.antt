@@ -16,7 +16,6 @@ use Rattle.reading.specs.declared.Refusal.{Refusal}
 use Rattle.reading.specs.declared.Spot.{Spot}
 use Rattle.reading.specs.Got.{got}
 use Rattle.jobfile.specs.declared.Verdict.{Verdict}
-use Rattle.jobfile.specs.declared.Verdict.TheVariants as Verdict
 use Rattle.jobfile.specs.Job.{Job, column, size, wishes, clashes, prices}
 use Rattle.jobfile.specs.Meaning.{choice_read, Few}
 use Rattle.jobfile.proofs.NamingLaws.{job_by, column-by, after-by}

@@ -13,14 +13,12 @@ use Rattle.reading.specs.declared.Reason.{Reason}
 use Rattle.reading.specs.declared.Refusal.{Refusal}
 use Rattle.jobfile.specs.declared.ReadChoice.{ReadChoice}
 use Rattle.network.specs.declared.lent.Lent.{Lent}
-use Rattle.network.specs.declared.lent.Lent.TheVariants as Lent
 use Rattle.network.specs.Network.{listed}
 use Rattle.network.specs.Groups.{first_misplaced}
 use Rattle.filter.specs.Filter.{first_bad}
 use Rattle.network.specs.Meaning.{lent_by}
 use Rattle.network.proofs.ListedLaws.{misplaced-listed}
 use Rattle.filter.specs.declared.goals.Goals.{Goals}
-use Rattle.filter.specs.declared.goals.Goals.TheVariants as Goals
 use Rattle.filter.specs.Meaning.{goals_by}
 use Rattle.arguments.specs.Meaning.{network_in}
 

@@ -1,6 +1,5 @@
 -- What the code's types mean.
 use Rattle.jobfile.specs.declared.Verdict.{Verdict}
-use Rattle.jobfile.specs.declared.Verdict.TheVariants as Verdict
 use Rattle.jobfile.specs.declared.ReadChoice.{ReadChoice}
 use Rattle.network.specs.Network.{Network, listed}
 use Rattle.arguments.specs.Answers.{Answer, refusal, value}

@@ -1,6 +1,7 @@
 // What a caller lends: the tests of the arguments, reasons 9 to 13, and the writing of mutex words into
 // a buffer.
 #![tactic(auto)]
+
 ghost use Rattle.std.specs.Prelude.{◌≡◌, not, ◌||◌, ◌≤◌, ltb};
 ghost use Rattle.arguments.specs.Tests.{article_test, room_test, layer_test, groups_test, pass_test, goals_test};
 ghost use Rattle.arguments.specs.Meaning.{verdict_of, network_in};
