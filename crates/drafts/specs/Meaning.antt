@@ -1,7 +1,6 @@
 -- What the code's types mean.
 use Rattle.std.specs.Prelude.{List, ℕ, take, set}
 use Rattle.jobfile.specs.declared.Verdict.{Verdict}
-use Rattle.jobfile.specs.declared.Verdict.TheVariants as Verdict
 use Rattle.jobfile.specs.declared.ReadChoice.{ReadChoice}
 use Rattle.arguments.specs.Answers.{Answer, refusal, value, Said, answered, refusal_said}
 use Rattle.drafts.specs.declared.Draft.{Draft}

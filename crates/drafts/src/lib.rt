@@ -1,6 +1,7 @@
 // A choice file with one change, on a page of its own: written anew from what the old file was read as,
 // and read as any file is. So no test of its own decides what a new file is refused for.
 #![tactic(auto)]
+
 ghost use Rattle.std.specs.Prelude.{◌≡◌, ◌≤◌, ◌<◌, take};
 ghost use Rattle.jobfile.specs.Write.{write};
 ghost use Rattle.arguments.specs.Answers.{refusal};
