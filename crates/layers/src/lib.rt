@@ -1,6 +1,7 @@
 // The layers of the planning graph on words of 64 bits: one from the one below it, and those of a fitting
 // file as read by their number.
 #![tactic(auto)]
+
 ghost use Rattle.std.specs.Prelude.{◌≡◌, true, false, [], ℕ, ◌+◌, ◌^◌, ◌≤◌, ◌<◌, get_or};
 ghost use Rattle.sets.specs.Ranges.{list_to};
 ghost use Rattle.planning.specs.Rounds.{listed_steps};

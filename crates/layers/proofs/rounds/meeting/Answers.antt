@@ -4,17 +4,10 @@ use mathlib.Core.Path.{ap, ◌∙◌}
 use Prim.Native.Nat.{ℕ, ◌^◌, ◌<◌}
 use Rattle.sets.specs.Sets.{member}
 use Rattle.layers.proofs.SetCode.{turned-meets}
-use Rattle.layers.proofs.rounds.meeting.Statement.{statement}
-use Rattle.layers.proofs.rounds.meeting.Tie as tie
+use Rattle.layers.proofs.rounds.meeting.Goals as goal
 
-gather-requires : tie.Need-gather-requires
-gather-requires c κs = search rules
-
-returns : tie.Need-returns
+pub returns : goal.returns
 returns c =
-    let a = c.before.args in
+    let a = c.args in
     let h : a.s < 2 ^ 64 = search rules in
     λ table e y l. ap (λ (r : ℕ). member r y) c.gather.ensures ∙ turned-meets 64 a.s a.turned.now table h e y l
-
-pub meeting-spec : {M : Type 1} → statement M
-meeting-spec = tie.close (tie.spec gather-requires returns)

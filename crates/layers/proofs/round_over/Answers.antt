@@ -1,0 +1,10 @@
+-- `layers::round_over` meets its contract.
+use Prim.Native.Nat.{◌+◌}
+use Rattle.layers.proofs.RoundCode.{round-made}
+use Rattle.layers.proofs.round_over.Goals as goal
+
+pub returns : goal.returns
+returns c =
+    let a = c.args in
+    let m = c.standing-members in
+    round-made 32 a.needs.now a.gives.now a.takes.now (32 + a.count) a.below.members m.result a.below.words c.words-mutex.result m.ensures c.words-mutex.ensures
