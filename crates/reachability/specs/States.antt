@@ -4,7 +4,6 @@ use Rattle.std.specs.Int.Bits.{bit_or}
 use Rattle.sets.specs.Sets.{◌⊆◌, without}
 use Rattle.planning.specs.Rounds.{Steps, Fitting, Plan}
 use Rattle.reachability.specs.declared.Place.{Place}
-use Rattle.reachability.specs.declared.Place.TheVariants as Place
 
 -- the answer: there is no plan of any length; or nothing is said
 abbrev pub Hopeless : Fitting → Bool → Type 0

@@ -1,6 +1,7 @@
 // Steps lead to states, which are sets of facts. What none of these states holds, no plan reaches. The
 // states are listed one after the other, each with what its steps lead to, as long as there is room.
 #![tactic(auto)]
+
 ghost use Rattle.std.specs.Prelude.{◌≡◌, ◌≢◌, ◌≤◌, ◌<◌, length};
 ghost use Rattle.std.specs.Int.Bits.{bit_or};
 ghost use Rattle.sets.specs.Sets.{without};
