@@ -16,7 +16,6 @@ use Rattle.sets.proofs.Bits.{bit-or, bit-without, bit-empty, ext, ext-at, part-r
 use Rattle.sets.proofs.Lowest.{lowest-in}
 use Rattle.network.specs.Network.{Network, listed, Cover}
 use Rattle.choice.specs.declared.Found.{Found}
-use Rattle.choice.specs.declared.Found.TheVariants as Found
 use Rattle.choice.specs.Choice.{smallest}
 use Rattle.choice.specs.Search.{Finds}
 use Rattle.choice.specs.Meaning.{found_by, is_some}

@@ -2,6 +2,7 @@
 // for the facts (supporting actions, with keepers for no-ops), and facts that no selection covers. Each
 // question is one of the choice's.
 #![tactic(auto)]
+
 ghost use Rattle.std.specs.Prelude.{◌≡◌, ℕ, ◌+◌, ◌*◌, ◌≤◌, ◌<◌, length, get_or};
 ghost use Rattle.sets.specs.Sets.{bit, ◌⊆◌, part};
 ghost use Rattle.network.specs.Network.{listed, Cover};
