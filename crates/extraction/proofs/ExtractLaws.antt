@@ -16,7 +16,6 @@ use Rattle.sets.proofs.Made.{gathered-at, gathered-from}
 use Rattle.network.specs.Network.{Network, listed, Cover}
 use Rattle.network.specs.Tables.{Tabled}
 use Rattle.choice.specs.declared.Found.{Found}
-use Rattle.choice.specs.declared.Found.TheVariants as Found
 use Rattle.choice.specs.Choice.{smallest}
 use Rattle.choice.specs.Search.{Finds}
 use Rattle.choice.specs.Meaning.{found_by}

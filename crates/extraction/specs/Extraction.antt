@@ -6,9 +6,7 @@ use Rattle.network.specs.Network.{listed, Cover}
 use Rattle.network.specs.Tables.{Tabled}
 use Rattle.supports.specs.Supports.{row_of}
 use Rattle.extraction.specs.declared.Extraction.{Extraction}
-use Rattle.extraction.specs.declared.Extraction.TheVariants as Extraction
 use Rattle.extraction.specs.declared.nogoods.Known.{Known}
-use Rattle.extraction.specs.declared.nogoods.Known.TheVariants as Known
 
 -- the 32 facts
 abbrev pub all_facts : ℕ

@@ -1,5 +1,6 @@
 // Plan extraction over round layers: from the goal back to the start, round by round.
 #![tactic(auto)]
+
 ghost use Rattle.std.specs.Prelude.{◌≡◌, ◌&&◌, ◌/◌, ◌^◌, ◌≤◌, eqb, length};
 ghost use Rattle.sets.specs.Sets.{◌⊆◌};
 ghost use Rattle.extraction.specs.Extraction.{all_facts, graph, Fine, Nogoods, Unreached, Extracted};
