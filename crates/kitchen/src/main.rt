@@ -1,15 +1,34 @@
 // The program: reads a job file from standard input and prints what comes of it.
 #![tactic(auto)]
-use libc::{STDIN_FILENO, STDOUT_FILENO};
+
+ghost use Rattle.std.specs.Prelude.{◌≤◌, length};
+
+use std::io::Read;
 
 // The bytes that are read at most: no job file has as many.
 const INPUT: usize = 4096;
 
-fn main() {
+// Reads until `space` is full, the input ends or a read fails, and returns how many bytes it put at
+// the start of `space`.
+fn read_full(input: &mut impl Read, space: &mut [u8]) -> usize
+    ensures { result ≤ length space.new }
+{
+    let mut done = 0;
+    while done < space.len() {
+        match input.read(&mut space[done..]) {
+            Ok(n) if n > 0 => done += n,
+            _ => break,
+        }
+    }
+    done
+}
+
+// A read or a write that fails ends the program like any other: RULES.md gives it no other status.
+fn main(rt: HostRuntime) {
     let mut space = [0u8; INPUT];
-    let n = io::read_full(STDIN_FILENO, &mut space);
+    let n = read_full(&mut rt.stdin(), &mut space);
     let page = report::report(&space[..n]);
     let len = text::used(page);
     let bytes = page.bytes;
-    io::write_all(STDOUT_FILENO, &bytes[..len]);
+    let _ = rt.write_all(&bytes[..len]);
 }

@@ -1,5 +1,6 @@
 // Drawn numbers and sets: the same ones in every run.
 #![tactic(auto)]
+
 ghost use Rattle.std.specs.Prelude.{◌<◌, ◌≤◌};
 
 use sets::word;

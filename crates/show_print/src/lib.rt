@@ -1,23 +1,25 @@
 // What the programs that show print with.
 #![tactic(auto)]
-use libc::STDOUT_FILENO;
-use sets::word;
 
-pub fn say(text: &[u8]) {
-    io::write_all(STDOUT_FILENO, text);
+use sets::word;
+use std::io;
+
+pub fn say(rt: &impl Print, text: &[u8]) -> io::Result<()> {
+    rt.write_all(text)
 }
 
 // A text, and a number after it.
-pub fn say_number(text: &[u8], x: u64) {
-    say(text);
-    io::print_decimal(STDOUT_FILENO, x);
+pub fn say_number(rt: &impl Print, text: &[u8], x: u64) -> io::Result<()> {
+    say(rt, text)?;
+    rt.print(x)
 }
 
 // The members of a word from the lowest up, a space before each.
-pub fn members(s: u64) {
+pub fn members(rt: &impl Print, s: u64) -> io::Result<()> {
     let mut left = s;
     while left != 0 {
-        say_number(b" ", word::lowest(left) as u64);
+        say_number(rt, b" ", word::lowest(left) as u64)?;
         left = word::rest(left);
     }
+    Ok(())
 }

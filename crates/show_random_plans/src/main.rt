@@ -1,12 +1,14 @@
 // Shows how many rounds the planner answers for 300 small drawn jobs, and how often it answers each
 // count. reference/random_plans.py prints the same text by trying every round.
 #![tactic(auto)]
+
 ghost use Rattle.std.specs.Prelude.{◌<◌};
 
 use calls::PlanAnswer;
 use reading::Refusal;
 use sets::word;
 use show_trials::{Job, Step, WORDS, rounds};
+use std::io;
 
 // How many jobs are drawn.
 const JOBS: usize = 300;
@@ -98,66 +100,67 @@ fn add(tally: &mut [u64; SORTS], count: usize) {
     }
 }
 
-fn say_kept(words: &[u32; WORDS], from: usize) {
+fn say_kept(rt: &impl Print, words: &[u32; WORDS], from: usize) -> io::Result<()> {
     if !show_trials::kept(words, from) {
-        show_print::say(b" changes other words");
+        show_print::say(rt, b" changes other words")?;
     }
-    show_print::say(b"\n");
+    show_print::say(rt, b"\n")
 }
 
-fn say_plan(job: Job, words: &[u32; WORDS], l: usize) {
-    show_print::say_number(b": ", l as u64);
+fn say_plan(rt: &impl Print, job: Job, words: &[u32; WORDS], l: usize) -> io::Result<()> {
+    show_print::say_number(rt, b": ", l as u64)?;
     if rounds::plan_holds(job, words, l) {
-        show_print::say(b" holds");
+        show_print::say(rt, b" holds")?;
     } else {
-        show_print::say(b" fails");
+        show_print::say(rt, b" fails")?;
     }
-    say_kept(words, l);
+    say_kept(rt, words, l)
 }
 
-fn say_refusal(refusal: Refusal, words: &[u32; WORDS]) {
+fn say_refusal(rt: &impl Print, refusal: Refusal, words: &[u32; WORDS]) -> io::Result<()> {
     let reason = refusal.reason;
-    show_print::say_number(b": ", reading::number(reason) as u64);
-    say_kept(words, 0);
+    show_print::say_number(rt, b": ", reading::number(reason) as u64)?;
+    say_kept(rt, words, 0)
 }
 
-fn show(number: usize, job: Job, tally: &mut [u64; SORTS]) {
-    show_print::say_number(b"", number as u64);
+fn show(rt: &impl Print, number: usize, job: Job, tally: &mut [u64; SORTS]) -> io::Result<()> {
+    show_print::say_number(rt, b"", number as u64)?;
     let mut words = show_trials::marked();
     let answer = show_trials::ask(job, &mut words);
     match answer {
         PlanAnswer::Rounds(l) => {
-            say_plan(job, &words, l);
+            say_plan(rt, job, &words, l)?;
             add(tally, l);
         }
         PlanAnswer::Refused(refusal) => {
-            say_refusal(refusal, &words);
+            say_refusal(rt, refusal, &words)?;
             add(tally, REFUSED);
         }
     }
+    Ok(())
 }
 
-fn totals(tally: &[u64; SORTS]) {
-    show_print::say(b"rounds 0 to 5:");
+fn totals(rt: &impl Print, tally: &[u64; SORTS]) -> io::Result<()> {
+    show_print::say(rt, b"rounds 0 to 5:")?;
     let mut count: usize = 0;
     while count < REFUSED {
-        show_print::say_number(b" ", tally[count]);
+        show_print::say_number(rt, b" ", tally[count])?;
         count += 1;
     }
-    show_print::say_number(b", refused: ", tally[REFUSED]);
-    show_print::say(b"\n");
+    show_print::say_number(rt, b", refused: ", tally[REFUSED])?;
+    show_print::say(rt, b"\n")
 }
 
-fn main() {
+fn main(rt: HostRuntime) -> io::Result<()> {
     let mut tally = [0u64; SORTS];
     let mut x: u64 = 88172645463325252;
     let mut number: usize = 0;
     while number < JOBS {
         let made = drawn_job(x);
         let job = made.job;
-        show(number, job, &mut tally);
+        show(&rt, number, job, &mut tally)?;
         x = made.x;
         number += 1;
     }
-    totals(&tally);
+    totals(&rt, &tally)
 }
