@@ -1,7 +1,8 @@
 // The open calls for C and for all that can call C: numbers and slices only. A slice is a pointer and a
-// length there. include/kitchen.h declares what is here. Each function returns 0 for an answer and
-// the reason's number for a refusal, and always writes all words of `out`.
+// length there. include/kitchen.h declares what is here, and capi_c exports it. Each function returns 0
+// for an answer and the reason's number for a refusal, and always writes all words of `out`.
 #![tactic(auto)]
+
 ghost use Rattle.std.specs.Prelude.{◌≡◌, [], ◌∷◌};
 ghost use Rattle.reading.specs.Items.{spots};
 ghost use Rattle.reading.specs.Reasons.{number_of};
@@ -70,8 +71,7 @@ fn unpriced(out: &mut [u64; 3], refusal: Refusal) -> u32
 
 // ---- choice files
 
-#[unsafe(no_mangle)]
-pub extern "C" fn kitchen_partition(file: &[u8], groups: &mut [u8], out: &mut [u64; 2]) -> u32
+pub fn kitchen_partition(file: &[u8], groups: &mut [u8], out: &mut [u64; 2]) -> u32
     ensures out_after { record { status = result; words = out.new } ≡ returned nothing (partition_of file.now groups.old).answer }
     ensures groups_after { groups.new ≡ (partition_of file.now groups.old).buffer }
 {
@@ -82,14 +82,7 @@ pub extern "C" fn kitchen_partition(file: &[u8], groups: &mut [u8], out: &mut [u
     }
 }
 
-#[unsafe(no_mangle)]
-pub extern "C" fn kitchen_pass(
-    file: &[u8],
-    groups: &[u8],
-    live: u64,
-    goal: u64,
-    out: &mut [u64; 2],
-) -> u32
+pub fn kitchen_pass(file: &[u8], groups: &[u8], live: u64, goal: u64, out: &mut [u64; 2]) -> u32
     ensures { record { status = result; words = out.new } ≡ returned passed_words (said (pass_of file.now groups.now live goal)) }
 {
     let answer = calls::pass(file, groups, ArticleSet { bits: live }, goal);
@@ -99,8 +92,7 @@ pub extern "C" fn kitchen_pass(
     }
 }
 
-#[unsafe(no_mangle)]
-pub extern "C" fn kitchen_choose(
+pub fn kitchen_choose(
     file: &[u8],
     groups: &[u8],
     goals: &[u64],
@@ -117,8 +109,7 @@ pub extern "C" fn kitchen_choose(
 }
 
 // The cheapest selection with its total and its tax.
-#[unsafe(no_mangle)]
-pub extern "C" fn kitchen_price(file: &[u8], rate: u64, out: &mut [u64; 3]) -> u32
+pub fn kitchen_price(file: &[u8], rate: u64, out: &mut [u64; 3]) -> u32
     ensures { record { status = result; words = out.new } ≡ returned_three bill_words (said (price_words_of file.now rate)) }
 {
     let answer = bill::price(file, rate);
@@ -133,13 +124,7 @@ pub extern "C" fn kitchen_price(file: &[u8], rate: u64, out: &mut [u64; 3]) -> u
 }
 
 // A fair's orders: three words an order.
-#[unsafe(no_mangle)]
-pub extern "C" fn kitchen_fair(
-    file: &[u8],
-    orders: &[u64],
-    words: &mut [u64],
-    out: &mut [u64; 2],
-) -> u32
+pub fn kitchen_fair(file: &[u8], orders: &[u64], words: &mut [u64], out: &mut [u64; 2]) -> u32
     ensures out_after { record { status = result; words = out.new } ≡ returned nothing (fair_of file.now orders.now words.old).answer }
     ensures words_after { words.new ≡ (fair_of file.now orders.now words.old).buffer }
 {
@@ -152,13 +137,7 @@ pub extern "C" fn kitchen_fair(
 
 // ---- fitting files
 
-#[unsafe(no_mangle)]
-pub extern "C" fn kitchen_fact_layer(
-    file: &[u8],
-    layer: u64,
-    mutexes: &mut [u32],
-    out: &mut [u64; 2],
-) -> u32
+pub fn kitchen_fact_layer(file: &[u8], layer: u64, mutexes: &mut [u32], out: &mut [u64; 2]) -> u32
     ensures out_after { record { status = result; words = out.new } ≡ returned alone (fact_layer_of file.now layer mutexes.old).answer }
     ensures mutexes_after { mutexes.new ≡ (fact_layer_of file.now layer mutexes.old).buffer }
 {
@@ -169,13 +148,7 @@ pub extern "C" fn kitchen_fact_layer(
     }
 }
 
-#[unsafe(no_mangle)]
-pub extern "C" fn kitchen_round_layer(
-    file: &[u8],
-    layer: u64,
-    mutexes: &mut [u64],
-    out: &mut [u64; 2],
-) -> u32
+pub fn kitchen_round_layer(file: &[u8], layer: u64, mutexes: &mut [u64], out: &mut [u64; 2]) -> u32
     ensures out_after { record { status = result; words = out.new } ≡ returned alone (round_layer_of file.now layer mutexes.old).answer }
     ensures mutexes_after { mutexes.new ≡ (round_layer_of file.now layer mutexes.old).buffer }
 {
@@ -186,8 +159,7 @@ pub extern "C" fn kitchen_round_layer(
     }
 }
 
-#[unsafe(no_mangle)]
-pub extern "C" fn kitchen_plan(file: &[u8], rounds: &mut [u32], out: &mut [u64; 2]) -> u32
+pub fn kitchen_plan(file: &[u8], rounds: &mut [u32], out: &mut [u64; 2]) -> u32
     ensures out_after { record { status = result; words = out.new } ≡ returned alone (said (plan_of file.now rounds.old)) }
     ensures buffer { Buffer (read_job fittings file.now) rounds.old rounds.new (plan_of file.now rounds.old) }
 {
@@ -201,16 +173,14 @@ pub extern "C" fn kitchen_plan(file: &[u8], rounds: &mut [u32], out: &mut [u64; 
 // ---- names and comparison
 
 // Where a name is in the file, by its start and its length.
-#[unsafe(no_mangle)]
-pub extern "C" fn kitchen_name(file: &[u8], number: u64, out: &mut [u64; 2]) -> u32
+pub fn kitchen_name(file: &[u8], number: u64, out: &mut [u64; 2]) -> u32
     ensures { record { status = result; words = out.new } ≡ spotted (spot_in (read spots either file.now) number) }
 {
     let spot = jobfile::spot(file, number as usize);
     answered(out, spot.start as u64, spot.len as u64)
 }
 
-#[unsafe(no_mangle)]
-pub extern "C" fn kitchen_find(file: &[u8], name: &[u8], out: &mut [u64; 2]) -> u32
+pub fn kitchen_find(file: &[u8], name: &[u8], out: &mut [u64; 2]) -> u32
     ensures { record { status = result; words = out.new } ≡ returned alone (said (find_of file.now name.now)) }
 {
     let answer = calls::find(file, name);
@@ -220,8 +190,7 @@ pub extern "C" fn kitchen_find(file: &[u8], name: &[u8], out: &mut [u64; 2]) -> 
     }
 }
 
-#[unsafe(no_mangle)]
-pub extern "C" fn kitchen_compare(first: &[u8], second: &[u8], out: &mut [u64; 2]) -> u32
+pub fn kitchen_compare(first: &[u8], second: &[u8], out: &mut [u64; 2]) -> u32
     ensures { record { status = result; words = out.new } ≡ returned test (said (compare_of first.now second.now)) }
 {
     let answer = calls::compare(first, second);
@@ -244,13 +213,7 @@ fn saved(out: &mut [u64; 2], answer: SaveAnswer) -> u32
     }
 }
 
-#[unsafe(no_mangle)]
-pub extern "C" fn kitchen_save_order(
-    file: &[u8],
-    order: u64,
-    to: &mut [u8],
-    out: &mut [u64; 2],
-) -> u32
+pub fn kitchen_save_order(file: &[u8], order: u64, to: &mut [u8], out: &mut [u64; 2]) -> u32
     ensures out_after { record { status = result; words = out.new } ≡ returned alone (save_of file.now (new_order order) to.old).answer }
     ensures to_after { to.new ≡ (save_of file.now (new_order order) to.old).buffer }
 {
@@ -258,8 +221,7 @@ pub extern "C" fn kitchen_save_order(
     saved(out, answer)
 }
 
-#[unsafe(no_mangle)]
-pub extern "C" fn kitchen_save_wishes(
+pub fn kitchen_save_wishes(
     file: &[u8],
     article: u64,
     wishes: u64,
@@ -273,8 +235,7 @@ pub extern "C" fn kitchen_save_wishes(
     saved(out, answer)
 }
 
-#[unsafe(no_mangle)]
-pub extern "C" fn kitchen_save_clashes(
+pub fn kitchen_save_clashes(
     file: &[u8],
     article: u64,
     clashes: u64,
@@ -288,8 +249,7 @@ pub extern "C" fn kitchen_save_clashes(
     saved(out, answer)
 }
 
-#[unsafe(no_mangle)]
-pub extern "C" fn kitchen_save_name(
+pub fn kitchen_save_name(
     file: &[u8],
     article: u64,
     name: &[u8],
@@ -306,8 +266,7 @@ pub extern "C" fn kitchen_save_name(
 // ---- the interface itself
 
 // The number of the interface that was built, for a caller to compare with that of its header.
-#[unsafe(no_mangle)]
-pub extern "C" fn kitchen_version() -> u32
+pub fn kitchen_version() -> u32
     ensures { result ≡ interface_number }
 {
     VERSION

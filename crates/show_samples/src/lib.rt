@@ -1,5 +1,6 @@
 // The files that a program damages, their first bytes, and whether a file is accepted.
 #![tactic(auto)]
+
 use jobfile::Verdict;
 
 // The first n bytes of a file.
