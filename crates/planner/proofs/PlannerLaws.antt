@@ -33,7 +33,6 @@ use Rattle.planner.specs.Meaning.{planned_by}
 use Rattle.planner.specs.Planner.{Words}
 use Rattle.planner.specs.Tabulated.{round_after, Layered, Laid}
 use Rattle.planner.specs.declared.Planned.{Planned}
-use Rattle.planner.specs.declared.Planned.TheVariants as Planned
 
 -- ---- what the search works on, and what it finds
 

@@ -2,7 +2,6 @@
 use Rattle.std.specs.Prelude.{◌≡◌, List, ℕ, take, drop}
 use Rattle.planning.specs.Rounds.{Fitting, Plan}
 use Rattle.planner.specs.declared.Planned.{Planned}
-use Rattle.planner.specs.declared.Planned.TheVariants as Planned
 
 -- Which plan it is, is left free: the words in front are the rounds of a plan, in their order, and the others stay as they were; if there is
 -- no plan, all stay as they were

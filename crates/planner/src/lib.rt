@@ -1,6 +1,7 @@
 // The planner: the fewest rounds in which the goal of a fitting can be reached, and the rounds of such a
 // plan.
 #![tactic(auto)]
+
 ghost use Rattle.std.specs.Prelude.{◌≡◌, ◌≤◌, length};
 ghost use Rattle.planning.specs.Rounds.{fewest};
 ghost use Rattle.planning.specs.Back.{Sized};
