@@ -8,7 +8,6 @@ use Rattle.sets.specs.Sets.{full}
 use Rattle.reading.specs.declared.Refusal.{Refusal}
 use Rattle.reading.specs.Items.{spots}
 use Rattle.jobfile.specs.declared.Verdict.{Verdict}
-use Rattle.jobfile.specs.declared.Verdict.TheVariants as Verdict
 use Rattle.jobfile.specs.declared.ReadChoice.{ReadChoice}
 use Rattle.jobfile.specs.Meaning.{choice_read}
 use Rattle.jobfile.specs.Read.{read, read_job, choices}

@@ -16,7 +16,6 @@ use Rattle.reading.specs.declared.Refusal.{Refusal}
 use Rattle.reading.specs.Got.{Got}
 use Rattle.reading.specs.Items.{spots}
 use Rattle.jobfile.specs.declared.Verdict.{Verdict}
-use Rattle.jobfile.specs.declared.Verdict.TheVariants as Verdict
 use Rattle.jobfile.specs.declared.ReadFitting.{ReadFitting}
 use Rattle.jobfile.specs.Job.{Job}
 use Rattle.jobfile.specs.Meaning.{padded, fitting_read}
@@ -31,7 +30,6 @@ use Rattle.planning.specs.Meaning.{fitting_in}
 use Rattle.layers.specs.Meaning.{layer, roomy}
 use Rattle.layers.proofs.LayerCode.{facts-length, rounds-length}
 use Rattle.planner.specs.declared.Planned.{Planned}
-use Rattle.planner.specs.declared.Planned.TheVariants as Planned
 use Rattle.planner.specs.Meaning.{planned_by}
 use Rattle.planner.specs.Planner.{Words}
 use Rattle.arguments.specs.Answers.{Answer, refusal, value, on_job, after_tests, found_or, Said, answered, said, refusal_said, Left, leaving}

@@ -16,10 +16,9 @@ use Rattle.reading.specs.declared.Spot.{Spot}
 use Rattle.reading.specs.Got.{Got, got}
 use Rattle.reading.specs.Items.{spots}
 use Rattle.jobfile.specs.declared.Verdict.{Verdict}
-use Rattle.jobfile.specs.declared.Verdict.TheVariants as Verdict
 use Rattle.jobfile.specs.declared.ReadChoice.{ReadChoice}
 use Rattle.jobfile.specs.declared.ReadNames.{ReadNames}
-use Rattle.jobfile.specs.Job.{Job, column, size, order, wishes, clashes}
+use Rattle.jobfile.specs.Job.{Job, column, size, wishes, clashes}
 use Rattle.jobfile.specs.Valid.{Bytes}
 use Rattle.jobfile.specs.Meaning.{choice_read, names_read, spot_of, spot_in, Few, NamesWithin, ChoiceBounds, NamesBounds}
 use Rattle.jobfile.specs.Read.{read, read_job, choices, either}

@@ -4,7 +4,6 @@ use mathlib.Core.List.{List}
 use Prim.Native.Nat.{ℕ}
 use Rattle.reading.specs.declared.Refusal.{Refusal}
 use Rattle.jobfile.specs.declared.Verdict.{Verdict}
-use Rattle.jobfile.specs.declared.Verdict.TheVariants as Verdict
 use Rattle.arguments.specs.Answers.{answered, refusal_said, Left}
 use Rattle.drafts.specs.Meaning.{stored_said}
 

@@ -8,10 +8,8 @@ use Rattle.sets.proofs.Ranges.{num-same}
 use Rattle.reading.specs.declared.Reason.{Reason}
 use Rattle.arguments.specs.Answers.{found_or, Said, refused_by, answered, said}
 use Rattle.names.specs.declared.Holder.{Holder}
-use Rattle.names.specs.declared.Holder.TheVariants as Holder
 use Rattle.names.specs.Meaning.{holder_of}
 use Rattle.choice.specs.declared.Choice.{Choice}
-use Rattle.choice.specs.declared.Choice.TheVariants as Choice
 use Rattle.calls.specs.Choose.{Chosen, searched}
 
 -- a number that is computed is looked at as any n that is equal to it, so that a comparison that fails names it

@@ -8,12 +8,10 @@ use Rattle.network.specs.Network.{Network, network_of}
 use Rattle.sets.specs.Sets.{full}
 use Rattle.filter.specs.Filter.{set_aside, first_short}
 use Rattle.choice.specs.declared.Choice.{Choice}
-use Rattle.choice.specs.declared.Choice.TheVariants as Choice
 use Rattle.choice.specs.Choice.{selection}
 use Rattle.arguments.specs.Answers.{Answer, refusal, value, on_job, after_tests, Said, answered, refusal_said}
 use Rattle.arguments.specs.Tests.{groups_test, goals_test}
 use Rattle.calls.specs.declared.ChoiceAnswer.{ChoiceAnswer}
-use Rattle.calls.specs.declared.ChoiceAnswer.TheVariants as ChoiceAnswer
 
 -- a selection, with what was set aside
 pub record Chosen : Type 0 where

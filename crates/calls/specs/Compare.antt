@@ -4,7 +4,6 @@ use Rattle.jobfile.specs.Read.{read_job, choices}
 use Rattle.names.specs.Likeness.{alike}
 use Rattle.arguments.specs.Answers.{Answer, value, on_job, Said, answered, refusal_said}
 use Rattle.calls.specs.declared.CompareAnswer.{CompareAnswer}
-use Rattle.calls.specs.declared.CompareAnswer.TheVariants as CompareAnswer
 
 -- whether two files are alike; the first is tested before the second
 abbrev pub compare_of : List ℕ → List ℕ → Answer Bool

@@ -6,7 +6,6 @@ use Rattle.jobfile.specs.Read.{read_job, either}
 use Rattle.names.specs.Names.{lowest_named}
 use Rattle.arguments.specs.Answers.{Answer, on_job, found_or, Said, answered, refusal_said}
 use Rattle.calls.specs.declared.FindAnswer.{FindAnswer}
-use Rattle.calls.specs.declared.FindAnswer.TheVariants as FindAnswer
 
 -- on a job: the lowest number with this name; none is 16
 abbrev pub find_in : Job (List ℕ) → List ℕ → Answer ℕ

@@ -7,9 +7,7 @@ use Rattle.planning.specs.Layers.{Layer, fact_layer, round_layer}
 use Rattle.arguments.specs.Answers.{Answer, value, on_job, after_tests, Said, answered, refusal_said, Left, leaving}
 use Rattle.arguments.specs.Tests.{layer_test}
 use Rattle.calls.specs.declared.FactsAnswer.{FactsAnswer}
-use Rattle.calls.specs.declared.FactsAnswer.TheVariants as FactsAnswer
 use Rattle.calls.specs.declared.VerticesAnswer.{VerticesAnswer}
-use Rattle.calls.specs.declared.VerticesAnswer.TheVariants as VerticesAnswer
 
 -- fact layer k on a job, for k from 0 to the horizon, with the words of 32 facts: 9 and 10 are tested
 abbrev pub fact_layer_in : {N : Type 0} → Job N → ℕ → List ℕ → Answer Layer

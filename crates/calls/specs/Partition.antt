@@ -7,7 +7,6 @@ use Rattle.network.specs.Groups.{groups_to}
 use Rattle.arguments.specs.Answers.{Answer, value, on_job, after_tests, Said, answered, refusal_said, Left, leaving}
 use Rattle.arguments.specs.Tests.{room_test}
 use Rattle.calls.specs.declared.PartitionAnswer.{PartitionAnswer}
-use Rattle.calls.specs.declared.PartitionAnswer.TheVariants as PartitionAnswer
 
 -- on a job: 10 is tested; then the group of each article
 abbrev pub partition_in : {N : Type 0} → Job N → List ℕ → Answer (List ℕ)

@@ -7,7 +7,6 @@ use Rattle.filter.specs.Filter.{total, pass}
 use Rattle.arguments.specs.Answers.{Answer, value, on_job, after_tests, Said, answered, refusal_said}
 use Rattle.arguments.specs.Tests.{groups_test, pass_test}
 use Rattle.calls.specs.declared.PassAnswer.{PassAnswer}
-use Rattle.calls.specs.declared.PassAnswer.TheVariants as PassAnswer
 
 -- what a pass leaves live, and the sum of the contributions by which it was made
 pub record Passed : Type 0 where

@@ -8,7 +8,6 @@ use Rattle.planning.specs.Rounds.{Fitting, fitting_of, Plan, fewest}
 use Rattle.arguments.specs.Answers.{Answer, refusal, value, on_job, after_tests, found_or, Said, answered, refusal_said}
 use Rattle.arguments.specs.Tests.{room_test}
 use Rattle.calls.specs.declared.PlanAnswer.{PlanAnswer}
-use Rattle.calls.specs.declared.PlanAnswer.TheVariants as PlanAnswer
 
 -- on a job: 10 is tested, by the horizon; then the fewest rounds of a plan within it; none is 15
 abbrev pub plan_in : {N : Type 0} → Job N → List ℕ → Answer ℕ

@@ -4,7 +4,6 @@ use Rattle.arguments.specs.Answers.{Said, answered, refusal_said, Left}
 use Rattle.changes.specs.Change.{Change}
 use Rattle.drafts.specs.Draft.{draft_of, stored}
 use Rattle.calls.specs.declared.SaveAnswer.{SaveAnswer}
-use Rattle.calls.specs.declared.SaveAnswer.TheVariants as SaveAnswer
 
 -- the length of the new file, which is at the front of the buffer, with the later bytes as they were. Tested are, in this order: the old file; 9; the
 -- new file; 10. A refusal writes nothing

@@ -4,6 +4,7 @@
 // equation with specs/, for every input, which fixes the answer, a refusal by its number and place, and
 // the buffer that is lent; only the words of a plan are left free, and `Buffer` says what holds of them.
 #![tactic(auto)]
+
 ghost use Rattle.std.specs.Prelude.{◌≡◌, ◌≤◌};
 ghost use Rattle.reading.specs.declared.Reason.TheVariants.{NameNotFound};
 ghost use Rattle.jobfile.specs.Read.{read_job, fittings};

@@ -1,0 +1,8 @@
+-- `calls::save_clashes` meets its contract: what is stored is the draft with that change.
+use mathlib.Core.Path.{ap, ◌∙◌}
+use Rattle.drafts.specs.Draft.{stored}
+use Rattle.calls.proofs.save_clashes.Goals as goal
+
+pub returns : goal.returns
+returns c =
+    c.saved.ensures ∙ ap (stored c.args.to.now) c.clashes-draft.ensures.result_value
