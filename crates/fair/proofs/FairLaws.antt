@@ -10,7 +10,6 @@ use Rattle.reading.specs.declared.Refusal.{Refusal}
 use Rattle.reading.specs.Got.{got}
 use Rattle.reading.specs.Items.{spots}
 use Rattle.jobfile.specs.declared.Verdict.{Verdict}
-use Rattle.jobfile.specs.declared.Verdict.TheVariants as Verdict
 use Rattle.jobfile.specs.declared.ReadChoice.{ReadChoice}
 use Rattle.jobfile.specs.Job.{Job, order}
 use Rattle.jobfile.specs.Meaning.{choice_read}
@@ -20,7 +19,6 @@ use Rattle.jobfile.proofs.StatedLaws.{choice-head, choice-stated}
 use Rattle.network.specs.Network.{Network, listed, network_of}
 use Rattle.network.specs.Tables.{both_ways}
 use Rattle.choice.specs.declared.Choice.{Choice}
-use Rattle.choice.specs.declared.Choice.TheVariants as Choice
 use Rattle.choice.specs.Choice.{offered}
 use Rattle.choice.proofs.BothLaws.{both-offered}
 use Rattle.arguments.specs.Answers.{Answer, value, on_job, unless, answered, refusal_said, Left, leaving}

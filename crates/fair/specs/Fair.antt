@@ -10,7 +10,6 @@ use Rattle.changes.specs.Change.{new_order, changed}
 use Rattle.calls.specs.Choose.{Chosen}
 use Rattle.calls.specs.Offer.{offer_in}
 use Rattle.fair.specs.declared.FairAnswer.{FairAnswer}
-use Rattle.fair.specs.declared.FairAnswer.TheVariants as FairAnswer
 
 -- the answer to an order in place of the file's own: what the program chooses on the job with that order; 18 if it names a wish that the file lacks
 abbrev pub order_in : Job (List ℕ) → ℕ → Answer Chosen

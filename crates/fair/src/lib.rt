@@ -2,6 +2,7 @@
 // the orders and the buffer as they come: it requires nothing. The file is read once, and what does not
 // hang on an order is made once.
 #![tactic(auto)]
+
 ghost use Rattle.std.specs.Prelude.{◌≡◌, [], ◌∷◌, ◌++◌, ◌*◌, ◌≤◌, ◌<◌, length, get_or, drop};
 ghost use Rattle.network.specs.Network.{listed};
 ghost use Rattle.network.specs.Groups.{group_of};
