@@ -8,7 +8,6 @@ use Rattle.calls.specs.Offer.{offer_of}
 use Rattle.calls.specs.Plan.{plan_of, Buffer}
 use Rattle.text.specs.Text.{refused_text, chosen_text, rounds_text}
 use Rattle.report.specs.declared.OutcomeAnswer.{OutcomeAnswer}
-use Rattle.report.specs.declared.OutcomeAnswer.TheVariants as OutcomeAnswer
 
 -- what comes of a file: a selection with the set aside, or how many rounds a plan has
 pub data Result : Type 0 where

@@ -1,5 +1,6 @@
 // What the program does with a file, and the text that it prints.
 #![tactic(auto)]
+
 ghost use Rattle.std.specs.Prelude.{◌≡◌};
 ghost use Rattle.text.specs.Meaning.{shown};
 ghost use Rattle.arguments.specs.Answers.{said};
