@@ -1,0 +1,13 @@
+-- `capi::kitchen_choose` meets its contract: each return by what the call answered.
+use mathlib.Core.Path.{refl, sym, ap, ◌∙◌}
+use native.Mathlib.Omega.{arith}
+use Rattle.calls.specs.Choose.{choice_told}
+use Rattle.capi.specs.Returned.{both}
+use Rattle.capi.proofs.ReturnedLaws.{first_word, second_word, value-handed, refusal-handed}
+use Rattle.capi.proofs.kitchen_choose.Goals as goal
+
+pub returns-in-Chosen : goal.returns-in-Chosen
+returns-in-Chosen c = value-handed both (sym c.choose-answer.ensures ∙ ap choice_told c.in-Chosen.is) refl c.answered.ensures.1 (omega (arith, c.answered.ensures.0)) (omega (arith, first_word c.answered.ensures.1)) (omega (arith, second_word c.answered.ensures.1))
+
+pub returns-in-Refused : goal.returns-in-Refused
+returns-in-Refused c = refusal-handed both (sym c.choose-answer.ensures ∙ ap choice_told c.in-Refused.is) c.refused.ensures.1 (omega (arith, c.refused.ensures.0)) (omega (arith, first_word c.refused.ensures.1)) (omega (arith, second_word c.refused.ensures.1))
