@@ -13,6 +13,8 @@ LIB = "crates/demands/proofs/Lib.antt"
 # The files of theorems that are promised, each with the section of docs/TRACE.md that names them.
 THEOREMS = {"Demands": "The demands", "Saving": "The requests", "Bounds": "The requests", "Naming": "The requests", "Pricing": "The requests", "Moving": "The requests", "Fairs": "The requests"}
 NAME = r"[^\s(){}.;,@\"]+"
+# The files of a function's proof, in its own folder below proofs/: what they declare are answers and invariants, and no theorems.
+ANSWERS = ("Answers.antt", "Invariants.antt", "Proof.antt")
 MARKS = r"((?:(?:pub|abbrev|unfoldable) )*)"
 SIGNATURE = re.compile(rf"{MARKS}({NAME}(?: {NAME})*) :(?:\s|$)")
 BLOCK = re.compile(rf"{MARKS}(?:record|data) ({NAME})")
@@ -65,15 +67,20 @@ def in_code(text):
     return kinds, functions
 
 
+def written(root, only="*"):
+    """The files of the crates below a root, or of one of them, without what rt made there."""
+    return sorted(path for part in ("src", "specs", "proofs", "must-fail") for path in (root / "crates").glob(f"{only}/{part}/**/*") if path.is_file())
+
+
 def names(root, only="*"):
     """What the crates below a root declare, or one of them."""
     found = Declared()
-    for path in sorted(each for crate in (root / "crates").glob(only) for each in crate.rglob("*")):
-        crate = path.relative_to(root / "crates").parts[0]
+    for path in written(root, only):
+        crate, part = path.relative_to(root / "crates").parts[:2]
         if path.suffix == ".edit":
             found.edits.add(path.stem)
-        elif path.suffix == ".antt" and path.name != "Proof.antt":
-            sort = found.definitions if "specs" in path.parts else found.theorems
+        elif path.suffix == ".antt" and not (part == "proofs" and path.name in ANSWERS):
+            sort = found.definitions if part == "specs" else found.theorems
             sort.update(name for name, _ in signatures(path.read_text()))
         elif path.suffix == ".rt":
             kinds, functions = in_code(path.read_text())
@@ -138,7 +145,7 @@ def theorem_file(module):
 
 
 def import_of(module):
-    return f"Rattle·demands·proofs.proofs.{module}"
+    return f"Rattle.demands.proofs.{module}"
 
 
 def in_trace(text, module):
@@ -191,9 +198,9 @@ def needs(text):
 def unnamed(root):
     """The needs of crates.txt that a crate does not name in its code, definitions and proofs."""
     for crate, words in needs((root / "crates.txt").read_text()).items():
-        files = (path for path in (root / "crates" / crate).rglob("*") if path.suffix in (".rt", ".antt"))
+        files = [path for path in written(root, crate) if path.suffix in (".rt", ".antt")]
         text = "\n".join(source.rattle(path.read_text()) if path.suffix == ".rt" else source.antt(path.read_text()) for path in files)
-        yield from (f"{crate}: {word}" for word in words if not re.search(rf"\bRattle·{word}[·.]|(?<![\w:]){word}::", text))
+        yield from (f"{crate}: {word}" for word in words if not re.search(rf"\bRattle\.{word}\.|(?<![\w:]){word}::", text))
 
 
 def arrows(text):
@@ -233,7 +240,7 @@ def described(root):
     def elsewhere(crate, name):
         if "/" in name:
             return (root / name).is_file()
-        return any((root / "crates" / crate).rglob(name)) if name.endswith((".rt", ".antt")) else name in direct[crate]
+        return any(path.name == name for path in written(root, crate)) if name.endswith((".rt", ".antt")) else name in direct[crate]
 
     for crate, table in re.findall(r"^### `(\w+)`\n\n((?:\|.*\n)+)", text, re.M):
         there = names(root, crate)
