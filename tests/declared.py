@@ -191,7 +191,7 @@ def promised(root):
 def needs(text):
     """The needs of each crate by crates.txt, without the kit's own libraries."""
     lines = [line.split("#")[0].strip() for line in text.splitlines()]
-    listed = {name.strip(): words.split() for name, _, words in (line.partition(":") for line in lines if line)}
+    listed = {name.split()[0]: words.split() for name, _, words in (line.partition(":") for line in lines if line)}
     return {name: [word for word in words if word in listed] for name, words in listed.items()}
 
 

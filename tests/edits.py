@@ -1,4 +1,4 @@
-"""The must-fail edits: what a file of one has to say, and when the log of its refusal shows that a fact fails.
+"""The must-fail edits: what a file of one has to say, and when what rt said of its refusal shows that a fact fails.
 
 docs/CHANGING.md has the kinds of lines. Everything is read below a root folder or from a text, so that a test can plant a fault.
 """
@@ -12,6 +12,9 @@ KINDS = ("file", "old", "new", "input", "row")
 BY_ROW = ("bill", "calls", "capi", "fair", "demands", "report", "kitchen", "examples")
 TABLE = "crates/examples/specs/Table.antt"
 FEW = 3  # the words that an input takes at least
+# What an edit may change in the files of a function's proof: the names of goals and of tests, which have the code's own numbers in them.
+ANSWERS = r"proofs/.+/(?:Answers|Invariants)\.antt"
+NAMED = re.compile(r"\b(returns|ensures|bounds|overflow\w*|loop|if|decreases|invariant)(?:-\w+)+")
 
 
 def labelled(root):
@@ -33,15 +36,25 @@ def lines(text):
     return pairs
 
 
+def follows(old, new):
+    """Whether words of a proof differ in the names of goals and tests alone."""
+    return NAMED.sub(r"\1", old) == NAMED.sub(r"\1", new)
+
+
 def changes(pairs):
-    """What an edit changes: a file, old words and new ones. Only code and definitions are wrong programs; a changed proof shows nothing."""
+    """What an edit changes: a file, old words and new ones. Only code and definitions are wrong programs; a changed proof shows nothing, so that
+    there an edit may only follow the code in the names of goals."""
     kinds = [kind for kind, _ in pairs if kind in ("file", "old", "new")]
     demand(re.fullmatch(r"(file( old new)+ ?)+", " ".join(kinds)), f"its lines are {', '.join(kinds)}: it takes 'file', and then 'old' and 'new'")
     made, file, old = [], "", ""
     for kind, said in pairs:
         file, old = (said if kind == "file" else file), (said if kind == "old" else old)
-        demand(re.fullmatch(r"(src/.+\.rt|specs/.+\.antt)", file) or not file, f"it edits {file}, and not code in src/ or definitions in specs/")
-        made += [(file, old, said)] if kind == "new" else []
+        code = re.fullmatch(r"(src/.+\.rt|specs/.+\.antt)", file)
+        demand(code or re.fullmatch(ANSWERS, file) or not file, f"it edits {file}, and not code in src/ or definitions in specs/")
+        if kind == "new":
+            demand(code or follows(old, said), f"it edits {file}, and not only the names of goals there")
+            made.append((file, old, said))
+    demand(not all(re.fullmatch(ANSWERS, file) for file, _, _ in made), "it edits no code in src/ and no definitions in specs/")
     demand(all(old != new for _, old, new in made), "its old and new words are the same")
     return made
 
@@ -100,45 +113,67 @@ def all_said(root):
 
 # ---- why an edit was refused
 
+# What rt ci says of an edit that was refused: its crate, its label, and why.
+REFUSAL = re.compile(r"rt: must-fail (\S+?)/(\S+)\.edit: refused, as it must be(.*)")
+# rt tells the first error that names no more than is there, or the first note on a goal that is not proved: its first line, cut after so many characters.
+CUT = 160
+ERROR = re.compile(r": (?:\./)?(\S+?):\d+:\d+: error: (?:`[^`]*`: )?(.*)")
+NOTE = re.compile(r": note: (?:\./)?src/\S+?:\d+:\d+: it is not proved that ")
 # How the checker says that a fact is not proved: two types differ, of which one is the fact, or a way of proving it fails. Everything
 # else, as "has no field" or "is not in scope", only says that a proof file no longer fits the code, and shows nothing about the contract.
-FACTS = re.compile(
-    "|".join(
-        (
-            r"(as printed|computed as far as they go), the two types (first differ|differ only|are) ",
-            r"expected type `.*\bbut this has type `",
-            r"`search`: no proof of ",
-            r"`omega`: .*\bdoes not follow from what it read",
-            r"`(simp|rw)` has no last argument, so what it leaves must be a path whose two ends are equal, and `",
-            r"`cc`: the equations do not join `",
-            r"`cc` met a bound of its own before the equations had joined `",
-        )
-    ),
-    re.S,
+# Each form begins with its first words, and goes on with the others; of an error that is cut, these may be missing.
+FACTS = (
+    ("as printed, the two types ",),
+    ("computed as far as they go, the two types ",),
+    ("compared part by part, the two types ",),
+    ("expected type `", "but this has type `"),
+    ("`search`: no proof of `",),
+    ("`omega`: ", "follow from what it read"),
+    ("`grind`: the goal does not follow",),
+    ("`cc`: the equations do not join `",),
+    ("list the missing equation with its arguments",),
+    ("give a proof of that as the last argument, `rw L t`",),
+    ("give a proof of that as the last argument, `simp L t`",),
 )
-AWAY = "was not admitted"  # said of what rests on a function that has no proof: its fact is in a note
-NOTE = "it is not proved that"
 
 
-def refused_for(log):
-    """The log of a refused edit shows that a fact fails: its first error is one, in a proof; or the function has no proof file, and a note names the fact."""
-    first = re.search(r"^(.*):\d+:\d+: error: (.*(?:\n  .*)*)", log, re.M)
-    if not first or AWAY in first[2].partition("\n")[0]:
-        demand(NOTE in log, "its log names no fact that fails")
+def is_fact(words, cut):
+    """Whether an error says that a fact is not proved, as far as it is told."""
+    for begins, *others in FACTS:
+        if cut and len(words) < len(begins):
+            if begins.startswith(words) and len(words) >= 12:
+                return True
+        elif words.startswith(begins) and (cut or all(each in words for each in others)):
+            return True
+    return False
+
+
+def refused_for(why):
+    """What rt says of a refused edit shows that a fact fails: the error that it tells is one, in a proof; or a note names a goal that is not proved."""
+    if NOTE.match(why):
         return
-    place, words = first.groups()
-    demand("/proofs/" in place, f"its first error is in no proof: {place}: {words[:300]}")
-    demand(FACTS.search(words), f"its first error is no failed fact: {words[:300]}")
+    demand(why, "rt names no fact that fails")
+    found = ERROR.fullmatch(why)
+    demand(found, f"what rt tells is no failed fact: {why.strip(' :')[:300]}")
+    place, words = found.groups()
+    demand(place.startswith("proofs/"), f"the error that rt tells is in no proof: {place}: {words[:300]}")
+    demand(is_fact(words, len(why) - len(": ") >= CUT), f"the error that rt tells is no failed fact: {words[:300]}")
 
 
-def all_refused(root):
-    """How many edits there are below a root: the log that rt left of each shows that a fact fails."""
+def refusals(said):
+    """What rt said of the edits that were refused, by crate and label."""
+    return {(name, label): why for name, label, why in map(lambda line: line.groups(), filter(None, map(REFUSAL.fullmatch, said.splitlines())))}
+
+
+def all_refused(root, said):
+    """How many edits there are below a root: what rt said of each shows that a fact fails."""
+    told, faults = refusals(said), []
     for edit in labelled(root):
         name, label = edit.parts[-3], edit.stem
-        log = root / "target" / "must-fail" / name / label / ".log"
-        demand(log.exists(), f"{log} is missing")
         try:
-            refused_for(log.read_text())
-        except Exception as fault:
-            demand(False, f"{name}/{label}: {fault}")
+            demand((name, label) in told, "rt does not say that it was refused")
+            refused_for(told[name, label])
+        except Exception as fault:  # all faults are told at once
+            faults.append(f"{name}/{label}: {fault}")
+    demand(not faults, f"{len(faults)} must-fail edits: " + "; ".join(faults))
     return len(labelled(root))

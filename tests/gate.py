@@ -13,6 +13,7 @@ import shlex
 import shutil
 import subprocess
 import sys
+import tempfile
 import textwrap
 import threading
 from collections import Counter
@@ -23,52 +24,76 @@ import declared
 import edits as must_fail
 import interface as c_interface
 import least
+import source
 from interface import STRICT
 from run import Failed, RtRun, demand, enough, main, run
 
 ROOT = pathlib.Path(".")
+ARCHIVE = "capi_c"  # the crate that is built into the C library: its exports call the functions of capi
+
+
+def listed():
+    """The lines of crates.txt: of each the name of a crate, and the libraries that it names."""
+    lines = (line.split("#")[0].strip() for line in (ROOT / "crates.txt").read_text().splitlines())
+    return {line.split(":")[0].split()[0]: line.partition(":")[2].split() for line in lines if line}
 
 
 def crates():
     """The names of crates.txt."""
-    lines = (line.split("#")[0].strip() for line in (ROOT / "crates.txt").read_text().splitlines())
-    return [line.split(":")[0].strip() for line in lines if line]
+    return list(listed())
 
 
 def programs():
     return [name for name in crates() if (ROOT / "crates" / name / "src" / "main.rt").exists()]
 
 
+def program(name):
+    """Where rt puts a program: `rt ci` does, and `rt run` in the crate's folder."""
+    return f"crates/{name}/out/{name}"
+
+
 def edits():
     return must_fail.labelled(ROOT)
 
 
-def verdict(name):
-    """The last line of a crate's check: `logic=proved functions=.. axioms=..`. rt keeps it until it proves the crate again."""
-    log = ROOT / "target" / "log" / f"{name}.say"
-    demand(log.exists(), f"{log} is missing")
-    lines = [line for line in log.read_text().splitlines() if line.startswith("logic=")]
-    demand(lines, f"{log} has no verdict")
-    return lines[-1]
+LOG = ROOT / "target" / "test.log"
+
+
+def said():
+    """What the last rt ci said here."""
+    demand(LOG.exists(), f"{LOG} is missing: prove_and_run leaves it")
+    return LOG.read_text()
 
 
 # ---- the checks
 
+OK = re.compile(r"rt: ok; handles allowed: none; must-fail edits: (\d+) refused(?:, \d+ of them only by a limit)?(, \d+ bad)?; .*")
+
+
+def all_well(lines, names, count):
+    """The line `rt: ok` is there, once, and says that each edit was refused, and that none is bad; the last line counts crates and edits."""
+    found = [line.strip() for line in lines if line.startswith("rt: ok")]
+    demand(len(found) == 1 and OK.fullmatch(found[0]), f"rt ci has to say once that all is well, and it says {found}")
+    refused, bad = OK.fullmatch(found[0]).groups()
+    demand(not bad, f"rt ci met bad must-fail edits: {found[0]}")
+    demand(int(refused) == len(names["must-fail"]), f"rt ci refused {refused} of {len(names['must-fail'])} must-fail edits")
+    demand(count == len(names["proved"]) + int(refused), f"rt counts {count}, and there are {len(names['proved'])} crates and {refused} edits")
+
 
 def prove_and_run():
-    """rt ci, from nothing: every crate proved, every must-fail edit refused, every program's output as stored."""
+    """rt ci, with no names: every crate proved and laid out, every must-fail edit refused, every program's output as stored, by both compilers."""
     strays = [str(path) for path in (ROOT / "crates").glob("*/must-fail/*") if path.suffix != ".edit"]
     demand(not strays, "rt tries no edit of this name: " + ", ".join(strays))
-    there = {"proved": crates(), "must-fail": [f"{edit.parts[-3]}/{edit.stem}" for edit in edits()], "ran": programs()}
-    rt = RtRun(["rt", "ci"], sum(map(len, there.values())), ROOT / "target" / "test.log")
+    there = {"proved": crates(), "must-fail": [f"{edit.parts[-3]}/{edit.stem}" for edit in edits()], "ran": programs(), "ran as Rattle builds it": programs()}
+    rt = RtRun(["rt", "ci"], sum(map(len, there.values())), LOG)
     try:
-        demand(rt.status == 0, f"rt ci ended with status {rt.status}; target/test.log has what it said")
+        demand(rt.status == 0, f"rt ci ended with status {rt.status}; {LOG} has what it said")
         counted = re.fullmatch(r"([1-9][0-9]*) passed, 0 failed", rt.last_line())
         demand(counted, f"rt ci's last line is '{rt.last_line()}'")
         for kind, names in there.items():
             lacks, more = Counter(names) - Counter(rt.steps[kind]), Counter(rt.steps[kind]) - Counter(names)
             demand(names and not lacks and not more, f"of {len(names)} '{kind}' rt does not report {sorted(lacks)}; it reports {sorted(more)} beyond them")
-        demand(int(counted[1]) == len(crates()) + len(edits()), f"rt counts {counted[1]}, and there are {len(crates())} crates and {len(edits())} edits")
+        all_well(rt.lines, there, int(counted[1]))
     except Failed:
         print(rt.to_read(), end="", flush=True)
         raise
@@ -76,8 +101,8 @@ def prove_and_run():
 
 
 def refused_for_a_fact():
-    """Each must-fail edit was refused because a fact fails, not because a proof file lost its shape or a definition its type."""
-    return must_fail.all_refused(ROOT)
+    """Each must-fail edit was refused because a fact fails, by what rt ci said of it, and not because a proof file lost its shape or a definition its type."""
+    return must_fail.all_refused(ROOT, said())
 
 
 def edits_say_where():
@@ -105,34 +130,91 @@ def counts():
     return len(there)
 
 
+def laid_out(root, folder):
+    """How many files of Rattle there are below a root: rt fmt, on a copy in this folder, leaves each as it is. rt ci refuses others, too."""
+    faults, count = [], 0
+    for crate in sorted(path.parent for path in (root / "crates").glob("*/src")):
+        copy = folder / crate.name
+        for part in ("src", "specs", "proofs"):
+            if (crate / part).is_dir():
+                shutil.copytree(crate / part, copy / part)
+        there = sorted(path for path in copy.rglob("*") if path.suffix in (".rt", ".antt"))
+        demand(there, f"{crate.name} has no file of Rattle")
+        done = subprocess.run(["rt", "fmt"], cwd=copy, stdin=subprocess.DEVNULL, capture_output=True, text=True)
+        demand(done.returncode == 0, f"rt fmt in a copy of {crate.name} ended with status {done.returncode}: {(done.stdout + done.stderr).strip()[-2000:]}")
+        differ = [path for path in there if path.read_bytes() != (crate / path.relative_to(copy)).read_bytes()]
+        faults += [str(pathlib.Path("crates") / path.relative_to(folder)) for path in differ]
+        count += len(there)
+    demand(not faults, "not in the layout of rt fmt: " + ", ".join(faults))
+    return count
+
+
 def layout():
-    """Every file of Rattle is in the layout of rt fmt (rt fmt --check)."""
-    run(["rt", "fmt", "--check"])
-    return sum(path.suffix in (".rt", ".antt") for path in (ROOT / "crates").rglob("*"))
+    """Every file of Rattle is in the layout of rt fmt: on a copy, it changes none."""
+    with tempfile.TemporaryDirectory() as folder:  # rt ci refuses a file of Rattle in target/
+        return laid_out(ROOT, pathlib.Path(folder))
+
+
+EXPORT = re.compile(r'#\[unsafe\(no_mangle\)\]\s*pub extern "C" fn ')
+
+
+def all_own(root, needs):
+    """How many crates there are: none lists a library of C's functions, has code in C, or declares a function of C's; what C is given is no such function."""
+    faults = []
+    for name, words in needs.items():
+        faults += [f"{name}: crates.txt lists {word}" for word in words if word in ("libc", "os")]
+        faults += [f"{name} has a folder c/"] * (root / "crates" / name / "c").exists()
+        for path in sorted((root / "crates" / name / "src").rglob("*.rt")):
+            code = source.rattle(path.read_text())
+            others = len(re.findall(r"\bextern\b", code)) - len(EXPORT.findall(code))
+            faults += [f"{name}: {path.name} has extern where nothing is exported"] * (others > 0)
+    demand(not faults, "; ".join(faults))
+    return len(needs)
+
+
+def no_foreign(text):
+    """No verdict that rt ci printed says that a crate declares C functions. What an earlier run proved has none in this one; rt ci refuses a crate that does."""
+    found = [line for line in text.splitlines() if line.startswith("logic=") and (" foreign=" in line or not line.startswith("logic=proved "))]
+    demand(not found, f"a crate declares C functions, or is not proved: {found}")
 
 
 def nothing_foreign():
-    """No crate declares a C function of its own."""
-    for name in crates():
-        demand(verdict(name).startswith("logic=proved "), f"{name}: {verdict(name)}")
-        demand("foreign=" not in verdict(name), f"{name} declares C functions: {verdict(name)}")
-    return len(crates())
+    """No crate declares a C function of its own, lists a library of such, or has code in C."""
+    no_foreign(said())
+    return all_own(ROOT, listed())
 
 
-def assumed(verdict):
-    """How many C functions a verdict assumes. rt counts them if something is built to run, and says so by `target=`."""
-    demand(" target=" in verdict, f"this verdict counts no C functions: {verdict}")
-    counted = re.search(r"\baxioms=(\d+)", verdict)
-    return int(counted[1]) if counted else 0
+def assumed(lines):
+    """How many C functions a verdict assumes, and which. rt counts them if something is made to run, says so by `target=`, and lists them above."""
+    verdicts = [line for line in lines if line.startswith("logic=")]
+    demand(verdicts and verdicts[-1].startswith("logic=proved ") and " target=" in verdicts[-1], f"this verdict counts no C functions: {verdicts}")
+    counted = re.search(r" axioms=(\d+) ", verdicts[-1])
+    names = [found[1] for found in (re.fullmatch(r"  (?:\w+::)+(\w+)   reached", line) for line in lines) if found]
+    demand(any(line.startswith("axioms ") for line in lines), "rt lists no C functions")
+    demand(len(names) == (int(counted[1]) if counted else 0), f"rt counts {counted and counted[1]} C functions, and lists {names}")
+    return sorted(names)
+
+
+def checked(name):
+    """What rt says of a crate that is made to run, with the C functions that it reaches, a line each."""
+    done = subprocess.run(["rt", "check", "--list-axioms"], cwd=ROOT / "crates" / name, stdin=subprocess.DEVNULL, capture_output=True, text=True)
+    demand(done.returncode == 0, f"rt check of {name} ended with status {done.returncode}: {(done.stdout + done.stderr).strip()[-2000:]}")
+    return done.stdout.splitlines()
+
+
+def stated_assumptions(readme):
+    """What README.md says of programs and the C library: of each the count `axioms=N`, and the names in parentheses."""
+    rows = re.findall(r"^\| `(\w+)`[^\n]*`axioms=(\d+)` \(([^()]*)\) \|$", readme, re.M)
+    return {name: (int(count), sorted(set(re.findall(r"\w+", names)) - {"none"})) for name, count, names in rows}
 
 
 def assumptions_as_stated():
-    """Each program, and the C library, assumes as many C functions as README.md says, in a row with its name and `axioms=N`; the library none."""
-    built_library()  # rt counts what a library assumes only if it makes an archive of it
-    counted = {"libkitchen": assumed(verdict("capi")), **{name: assumed(verdict(name)) for name in programs()}}
-    stated = re.findall(r"^\| `(\w+)`[^\n]*`axioms=(\d+)`", (ROOT / "README.md").read_text(), re.M)
-    demand(sorted(stated) == sorted((name, str(count)) for name, count in counted.items()), f"README.md states {stated}, the check counts {counted}")
-    demand(counted["libkitchen"] == 0, "the C library assumes C functions")
+    """Each program, and the C library, assumes just the C functions that README.md says, in a row with its name, `axioms=N` and their names; the library none."""
+    found = {"libkitchen": assumed(checked(ARCHIVE)), **{name: assumed(checked(name)) for name in programs()}}
+    stated = stated_assumptions((ROOT / "README.md").read_text())
+    counted = {name: (len(names), names) for name, names in found.items()}
+    demand(stated == counted, f"README.md states {stated}, the check finds {counted}")
+    demand(not found["libkitchen"], "the C library assumes C functions")
     return len(counted)
 
 
@@ -163,7 +245,7 @@ def documents():
 
 
 def unicode_table():
-    """Every entry of the table of crates/unicode, in the code and in the definitions, is as in Python's unicodedata, and in UnicodeData.txt if that is installed; no character below it has a mapping or a class, and none leads out of what is covered."""
+    """Every entry of the table of crates/unicode_forms, in the code and in the definitions, is as in Python's unicodedata, and in UnicodeData.txt if that is installed; no character below it has a mapping or a class, and none leads out of what is covered."""
     return characters.compared(ROOT)
 
 
@@ -181,7 +263,7 @@ def second_program():
     compared = 0
     for name, script in scripts(ROOT, programs()).items():  # kitchen_prints and beside run the others
         expected = run([sys.executable, "-B", str(script)])
-        printed = run([f"target/bin/{name}"])
+        printed = run([program(name)])
         ours, theirs = printed.splitlines(), expected.splitlines()
         demand(theirs, f"{script} prints nothing")
         for number, (a, b) in enumerate(zip(ours, theirs), 1):
@@ -206,7 +288,7 @@ def counted(printed, wanted):
 
 def kitchen_prints():
     """What kitchen prints of many files, good, damaged and cut, is what reference/kitchen.py says; every outcome is among them."""
-    return sum(counted(run([sys.executable, "-B", "reference/kitchen.py", "target/bin/kitchen"]), least.KITCHEN_PRINTS).values())
+    return sum(counted(run([sys.executable, "-B", "reference/kitchen.py", program("kitchen")]), least.KITCHEN_PRINTS).values())
 
 
 BUILDING = threading.Lock()
@@ -290,12 +372,13 @@ def named_numbers(text, shared):
 
 
 def header():
-    """include/kitchen.h declares the functions of capi with their types and no others, has its number, its reasons and its limits, and is plain C; the two programs in it run, and its lines that price, that answer a fair and that save do."""
+    """include/kitchen.h declares the functions that capi_c exports, which are those of capi, with their types and no others, has its number, its reasons and its limits, and is plain C; the two programs in it run, and its lines that price, that answer a fair and that save do."""
     text, number = interface()
-    capi = (ROOT / "crates" / "capi" / "src" / "lib.rt").read_text()
+    capi, exports = ((ROOT / "crates" / name / "src" / "lib.rt").read_text() for name in ("capi", ARCHIVE))
     functions = list(c_interface.declarations(text))
-    c_interface.same_prototypes(text, capi)
-    c_interface.compiled(capi, ROOT / "target")
+    c_interface.same_functions(capi, exports)
+    c_interface.same_prototypes(text, exports)
+    c_interface.compiled(exports, ROOT / "target")
     archive, shared = built_library()
     one_set_of_names(functions, shared)
     one_number(number, capi, shared)
@@ -617,7 +700,7 @@ def small_stack():
     """The planner's program prints the same within a stack of 1 MB: its recursion is not deep."""
     name = "show_plans"
     limit = lambda: resource.setrlimit(resource.RLIMIT_STACK, (2**20, 2**20))
-    run = subprocess.run([f"target/bin/{name}"], stdin=subprocess.DEVNULL, capture_output=True, text=True, preexec_fn=limit)
+    run = subprocess.run([program(name)], stdin=subprocess.DEVNULL, capture_output=True, text=True, preexec_fn=limit)
     demand(run.returncode == 0, f"{name} ended with status {run.returncode} within a stack of 1 MB")
     demand(run.stdout == (ROOT / "crates" / name / "stdout").read_text(), f"{name} prints something else within a stack of 1 MB")
     return len(run.stdout.splitlines())

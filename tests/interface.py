@@ -1,6 +1,6 @@
-"""The C interface: the prototypes that crates/capi gives rise to, and that include/kitchen.h declares just these.
+"""The C interface: the prototypes that crates/capi_c gives rise to, and that include/kitchen.h declares just these.
 
-Both are texts here, so that a test can hand over a header that is wrong.
+All are texts here, so that a test can hand over a header that is wrong. Here `exports` is the code of capi_c.
 """
 import pathlib
 import re
@@ -11,7 +11,8 @@ from run import demand, run
 WARNINGS = ["-Wall", "-Wextra", "-Werror", "-pedantic"]
 STRICT = [*WARNINGS, "-I", "include"]
 NUMBERS = {**{f"{sign}{bits}": f"{'u' if sign == 'u' else ''}int{bits}_t" for sign in "ui" for bits in (8, 16, 32, 64)}, "usize": "size_t"}
-EXPORTED = re.compile(r'#\[no_mangle\]\s*pub extern "C" fn (\w+)\(([^()]*)\)\s*->\s*(\w+)')
+EXPORTED = re.compile(r'#\[unsafe\(no_mangle\)\]\s*pub extern "C" fn (\w+)\(([^()]*)\)\s*->\s*(\w+)')
+OFFERED = re.compile(r"\bpub fn (kitchen_\w+)\(([^()]*)\)\s*->\s*(\w+)")
 DECLARED = re.compile(r"^([a-z]\w*(?: \w+)*[ *]+)(\w+)\s*\(([^()]*)\)\s*;", re.M)
 
 
@@ -20,22 +21,37 @@ def in_c(name, kind):
     if kind in NUMBERS:
         return [f"{NUMBERS[kind]} {name}"]
     lent = re.fullmatch(r"&(mut )?\[(\w+)(?:; (\d+))?\]", kind)
-    demand(lent and lent[2] in NUMBERS, f"capi has a parameter {name} of the type {kind}, which C cannot have")
+    demand(lent and lent[2] in NUMBERS, f"capi_c has a parameter {name} of the type {kind}, which C cannot have")
     element = ("" if lent[1] else "const ") + NUMBERS[lent[2]]
     return [f"{element} {name}[{lent[3]}]"] if lent[3] else [f"{element} *{name}", f"size_t {name}_len"]
 
 
-def prototypes(capi):
-    """The prototype of each function that capi has for C, by its name."""
-    code = source.rattle(capi)
+def parameters_of(text):
+    """Pairs of a name and a type."""
+    return [tuple(" ".join(part.split()) for part in parameter.split(":")) for parameter in text.split(",") if parameter.strip()]
+
+
+def prototypes(exports):
+    """The prototype of each function that capi_c has for C, by its name."""
+    code = source.rattle(exports)
     found = EXPORTED.findall(code)
-    demand(found and len(found) == code.count("no_mangle") == code.count("extern"), "capi has a function for C that is not `#[no_mangle] pub extern \"C\" fn NAME(..) -> ..`")
+    form = '#[unsafe(no_mangle)] pub extern "C" fn NAME(..) -> ..'
+    demand(found and len(found) == code.count("no_mangle") == code.count("extern"), f"capi_c has a function for C that is not `{form}`")
     made = {}
     for name, parameters, result in found:
-        demand(result in NUMBERS, f"{name} of capi returns {result}, which C cannot have")
-        pairs = [[part.strip() for part in parameter.split(":")] for parameter in parameters.split(",") if parameter.strip()]
-        made[name] = f"{NUMBERS[result]} {name}({', '.join(part for pair in pairs for part in in_c(*pair)) or 'void'})"
+        demand(result in NUMBERS, f"{name} of capi_c returns {result}, which C cannot have")
+        made[name] = f"{NUMBERS[result]} {name}({', '.join(part for pair in parameters_of(parameters) for part in in_c(*pair)) or 'void'})"
     return made
+
+
+def same_functions(capi, exports):
+    """capi_c exports just the functions of capi whose names begin with `kitchen_`, with their parameters and results."""
+    signatures = ({name: (parameters_of(given), result) for name, given, result in form.findall(source.rattle(text))} for form, text in ((OFFERED, capi), (EXPORTED, exports)))
+    offered, exported = signatures
+    demand(offered and sorted(offered) == sorted(exported), f"capi offers {sorted(offered)}, and capi_c exports {sorted(exported)}")
+    for name, signature in offered.items():
+        demand(exported[name] == signature, f"{name} is {signature} in capi, and {exported[name]} in capi_c")
+    return len(offered)
 
 
 def declarations(header):
@@ -45,18 +61,18 @@ def declarations(header):
     return dict(found)
 
 
-def same_prototypes(header, capi):
-    """The header declares each function of capi, with these types and names of its parameters, in this order, and no other."""
-    declared, made = declarations(header), prototypes(capi)
-    demand(sorted(declared) == sorted(made), f"the header declares {sorted(declared)}, capi has {sorted(made)}")
+def same_prototypes(header, exports):
+    """The header declares each function of capi_c, with these types and names of its parameters, in this order, and no other."""
+    declared, made = declarations(header), prototypes(exports)
+    demand(sorted(declared) == sorted(made), f"the header declares {sorted(declared)}, capi_c has {sorted(made)}")
     for name, prototype in made.items():
-        demand(declared[name] == prototype, f"the header declares {declared[name]}, and of capi comes {prototype}")
+        demand(declared[name] == prototype, f"the header declares {declared[name]}, and of capi_c comes {prototype}")
     return len(made)
 
 
-def redeclared(capi):
-    """A file of C that a compiler refuses if the header has another type for a function of capi. The types come before the header, so that nothing in it can change them."""
-    made = prototypes(capi)
+def redeclared(exports):
+    """A file of C that a compiler refuses if the header has another type for a function of capi_c. The types come before the header, so that nothing in it can change them."""
+    made = prototypes(exports)
     lines = ["#include <stddef.h>", "#include <stdint.h>"]
     lines += ["typedef " + prototype.replace(f" {name}(", f" of_{name}(") + ";" for name, prototype in made.items()]
     lines += ['#include "kitchen.h"']
@@ -65,8 +81,8 @@ def redeclared(capi):
     return "\n".join([*lines, "typedef char a_length_has_64_bits[sizeof(size_t) == 8 ? 1 : -1];", ""])
 
 
-def compiled(capi, folder, include="include"):
-    """The header has the types of capi for a compiler, too."""
+def compiled(exports, folder, include="include"):
+    """The header has the types of capi_c for a compiler, too."""
     path = pathlib.Path(folder) / "redeclared.c"
-    path.write_text(redeclared(capi))
+    path.write_text(redeclared(exports))
     run(["cc", "-std=c99", "-Wstrict-prototypes", *WARNINGS, "-I", str(include), "-fsyntax-only", str(path)])

@@ -7,7 +7,6 @@ tests/least.py says, has not passed.
 import argparse
 import dataclasses
 import hashlib
-import itertools
 import os
 import pathlib
 import re
@@ -44,13 +43,17 @@ def run(command, status=0):
 
 # ---- a run of rt
 
-# What rt says of a step that ended as it should: the groups are its name and its seconds.
+# What rt says of a step that ended as it should: the group is its name. A crate is proved in this run or in an earlier one on this machine; a
+# program is run as each of two compilers builds it.
 STEPS = {
-    "proved": re.compile(r"rt: (\S+) proved \((\d+) s\)"),
-    "must-fail": re.compile(r"rt: must-fail (\S+): refused, as it must be \((?:.*; )?(\d+) s\)"),
-    "ran": re.compile(r"rt: (\S+) ran(?: as nobody)?, and wrote what its file 'stdout' has \((\d+) s\)"),
+    "proved": re.compile(r"rt: (\S+) (?:proved|is kept: an earlier run on this machine proved the same files over the same libraries)"),
+    "must-fail": re.compile(r"rt: must-fail (\S+)\.edit: refused, as it must be.*"),
+    "ran": re.compile(r"rt: (\S+) ran, and wrote what its file stdout has"),
+    "ran as Rattle builds it": re.compile(r"rt: (\S+) ran \(built by Rattle's own compiler\), and wrote what its file stdout has"),
 }
-TROUBLE = re.compile(r"error|failed|NOT PROVED|NOT REFUSED|BAD EDIT", re.I)
+# What rt says when it begins what takes long.
+BEGUN = re.compile(r"rt: \S+: trying its must-fail edits \(\d+\)")
+TROUBLE = re.compile(r"error|failed|differ|warning|NOT PROVED|NOT REFUSED|NOT TRIED|BAD EDIT", re.I)
 
 
 class RtRun:
@@ -60,13 +63,12 @@ class RtRun:
         """Runs it. Its lines go to the log; a step that ended, or came to trouble, is one line here."""
         self.lines, self.steps, self.total = [], {kind: [] for kind in STEPS}, total
         self.began = time.monotonic()
-        process = subprocess.Popen(
-            command, stdin=subprocess.DEVNULL, stdout=subprocess.PIPE, stderr=subprocess.STDOUT, encoding="utf-8", errors="replace"
-        )
-        first = process.stdout.readline()  # rt ci removes target/ before it says a line
         log.parent.mkdir(exist_ok=True)
         with log.open("w", encoding="utf-8") as kept:
-            for line in itertools.chain([first], process.stdout):
+            process = subprocess.Popen(
+                command, stdin=subprocess.DEVNULL, stdout=subprocess.PIPE, stderr=subprocess.STDOUT, encoding="utf-8", errors="replace"
+            )
+            for line in process.stdout:
                 kept.write(line)
                 kept.flush()
                 self.lines.append(line)
@@ -74,14 +76,12 @@ class RtRun:
         self.status = process.wait()
 
     def tell(self, line):
-        for kind, pattern in STEPS.items():
-            step = pattern.fullmatch(line.strip())
-            if step:
-                self.steps[kind].append(step[1])
-                ended = sum(map(len, self.steps.values()))
-                print(f"[{ended}/{self.total}] {time.monotonic() - self.began:.0f} s  {kind} {step[1]} ({step[2]} s)", flush=True)
-                return
-        if line.startswith("rt: ") and TROUBLE.search(line):
+        step = ended_well(line)
+        if step:
+            self.steps[step[0]].append(step[1])
+            ended = sum(map(len, self.steps.values()))
+            print(f"[{ended}/{self.total}] {time.monotonic() - self.began:.0f} s  {' '.join(step)}", flush=True)
+        elif BEGUN.fullmatch(line.strip()) or line.startswith("rt: ") and TROUBLE.search(line):
             print(line.rstrip(), flush=True)
 
     def last_line(self):
@@ -89,17 +89,24 @@ class RtRun:
 
     def to_read(self, last=200):
         """What to read if it failed: the last lines, and all before them that speak of trouble."""
-        return "".join([line for line in self.lines[:-last] if TROUBLE.search(line)] + self.lines[-last:])
+        return "".join([line for line in self.lines[:-last] if TROUBLE.search(line) and not ended_well(line)] + self.lines[-last:])
+
+
+def ended_well(line):
+    """The kind and the name of the step that this line of rt says ended as it should, if it says so."""
+    found = ((kind, pattern.fullmatch(line.strip())) for kind, pattern in STEPS.items())
+    return next(((kind, step[1]) for kind, step in found if step), None)
 
 
 # ---- a run of checks
 
 
 def snapshot():
-    """What is in the tree beside target/ and .git/."""
+    """What is in the tree beside target/, .git/ and what rt makes, each crate's out/."""
     seen = {}
     for base, folders, names in os.walk(ROOT):
-        folders[:] = [f for f in folders if os.path.join(base, f) not in ("./target", "./.git")]
+        is_crate = os.path.dirname(base) == "./crates"
+        folders[:] = [f for f in folders if os.path.join(base, f) not in ("./target", "./.git") and not (is_crate and f == "out")]
         for name in names:
             path = os.path.join(base, name)
             seen[path] = hashlib.sha256(open(path, "rb").read()).hexdigest()
@@ -163,10 +170,10 @@ def arguments(names):
         allow_abbrev=False,
         formatter_class=argparse.RawDescriptionHelpFormatter,
         description="Runs the checks of tests/gate.py. Status 0: none failed; 1: some did; 2: bad usage, and nothing was done.\n"
-        "Without arguments it runs all, from nothing: target/ is removed, and everything is proved again.\n"
+        "Without arguments it runs all: first rt ci, which proves from nothing what no run of it on this machine has passed as it is.\n"
         "The last line is 'N passed, M failed'.",
-        epilog="A check that is named looks at what is built in target/, and only prove_and_run removes that.\n"
-        "'rt check' proves and builds what has changed; docs/CHANGING.md says which check looks at what.",
+        epilog="A check that is named looks at what is built: programs in the folders out/ of their crates, the library in target/.\n"
+        "docs/CHANGING.md says which check looks at what, and what builds that.",
     )
     parser.add_argument("check", nargs="*", metavar="CHECK", help="run these checks alone")
     parser.add_argument("--list", action="store_true", help="list the checks, each with what it sees, and run none")
@@ -192,7 +199,7 @@ def main(checks, extra, each, least, together=()):
     before = {}
 
     def leaves_the_tree_clean():
-        """A run of the checks writes nothing beside target/."""
+        """A run of the checks writes nothing beside target/ and what rt makes, each crate's out/."""
         after = snapshot()
         changed = sorted(path for path in before.keys() | after.keys() if before.get(path) != after.get(path))
         demand(not changed, "the gate changed " + ", ".join(changed))
