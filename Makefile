@@ -6,7 +6,7 @@ export PREFIX DESTDIR
 
 version := $(shell sed -n 's/^.define KITCHEN_VERSION //p' include/kitchen.h)
 sources := crates.txt $(shell find crates/*/src crates/*/specs crates/*/proofs -type f)
-program := target/bin/kitchen
+program := crates/kitchen/out/kitchen
 shared := libkitchen.so.$(version)
 library := target/lib/$(shared)
 name := kitchen-$(version)
@@ -18,7 +18,7 @@ folder := target/dist/$(name)
 all: $(program) $(library)
 
 help:
-	@echo 'make                           the program target/bin/kitchen and the library in target/lib/, from proved crates'
+	@echo 'make                           the program $(program) and the library in target/lib/, from proved crates'
 	@echo 'make install [PREFIX=/usr/local] [DESTDIR=]'
 	@echo '                               bin/kitchen, include/kitchen.h, lib/libkitchen.a, lib/$(shared) with its link,'
 	@echo '                               and lib/pkgconfig/kitchen.pc'
@@ -27,10 +27,10 @@ help:
 	@echo 'make dist                      target/dist/$(name).tar.gz: all of it with examples and tools, to be used without the kit'
 	@echo 'make help                      this'
 
-# rt leaves a program alone whose crates have not changed; touched, it is newer than they are.
+# rt run proves and builds a program before it runs it. It leaves one alone whose crates have not changed; touched, it is newer than they are.
 $(program): $(sources)
 	@command -v rt >/dev/null || { echo 'make: rt (the Rattle kit) is missing on your path' >&2; exit 1; }
-	rt check kitchen
+	cd crates/kitchen && rt run </dev/null >/dev/null
 	@touch $@
 
 $(library): $(sources) include/kitchen.h tools/library
@@ -62,7 +62,7 @@ dist: all
 	@KITCHEN_PC_PREFIX='$${pcfiledir}/../..' $(MAKE) --no-print-directory -s install DESTDIR=$(folder) PREFIX= >/dev/null
 	@cp -R docs host jobs tools $(folder)
 	@cp README.md show $(folder)
-	@rm -f $(folder)/tools/library $(folder)/tools/unicode_table.py
+	@rm -f $(folder)/tools/library $(folder)/tools/unicode_table.py $(folder)/tools/respell.py
 	@find $(folder) -name __pycache__ -prune -exec rm -rf {} +
 	@{ rt version && $(commit) && echo 'machine x86-64 Linux'; } >$(folder)/KIT
 	@cd $(folder) && find . '!' -type d '!' -name SHA256SUMS | LC_ALL=C sort | xargs sha256sum >SHA256SUMS

@@ -1,6 +1,6 @@
 """Tests of what tools/job answers. Called as `python3 -B tests/showroom.py [SECTION...]` in the repository's root.
 
-It needs target/bin/kitchen and target/lib/libkitchen.so. Each section prints a line of counts, `name: count, name: count`;
+It needs crates/kitchen/out/kitchen and target/lib/libkitchen.so. Each section prints a line of counts, `name: count, name: count`;
 the last line is `N checks`, and the status 0; or what failed is printed, and the status is 1. Files are written to a
 temporary folder only. `--fault K` makes a mistake in the tool on purpose (FAULTS below): then the status has to be 1.
 
@@ -44,7 +44,8 @@ from showroom.guide import CHOICE_EXAMPLE  # noqa: E402
 from showroom.texts import stated  # noqa: E402
 
 TOOL = ROOT / "tools" / "job"
-KITCHEN = ROOT / "target" / "bin" / "kitchen"
+PLACE = pathlib.Path("crates", "kitchen", "out", "kitchen")
+KITCHEN = ROOT / PLACE
 LIBRARY = ROOT / "target" / "lib" / "libkitchen.so"
 SAMPLES = sorted((ROOT / "jobs").glob("*.txt"))
 ANSWERS = ("No such", "A kitchen of", "A plan of", "needs no article", "takes no round", "Counting the wishes", "How far", "cheapest kitchen, of")
@@ -301,19 +302,21 @@ def chain(draw, length, horizon):
 
 # ---- the README's command
 
+BUILD = "(cd crates/kitchen && rt run </dev/null >/dev/null)"
+
 
 def readme_command():
     """Of the README's first command the part after the build."""
     blocks = re.findall(r"^```\n(.*?)^```$", (ROOT / "README.md").read_text(), re.M | re.S)
-    found = [block.strip() for block in blocks if block.startswith("rt check kitchen")]
+    found = [block.strip() for block in blocks if block.startswith(BUILD)]
     check(len(found) == 1, f"README.md has the command once: {found}")
-    build, _, rest = (found or [""])[0].partition(" && ")
-    check(build == "rt check kitchen" and rest, f"README.md builds kitchen, and then runs something: {found}")
+    build, _, rest = (found or [""])[0].rpartition(" && ")
+    check(build == BUILD and rest, f"README.md builds kitchen, and then runs something: {found}")
     return rest
 
 
 def snapshot():
-    """The files of the tree and of target/, with their sizes and times."""
+    """The files of the tree, of target/ and of what rt made, with their sizes and times."""
     found = {}
     for base, folders, names in os.walk(ROOT):
         folders[:] = [name for name in folders if name != ".git"]
@@ -677,7 +680,7 @@ def copied_tree(folder):
     for name in ("tools", "host", "jobs"):
         shutil.copytree(ROOT / name, tree / name)
     shutil.copy(ROOT / "show", tree)
-    (tree / "target" / "bin").mkdir(parents=True)
+    (tree / PLACE).parent.mkdir(parents=True)
     return tree
 
 
@@ -687,7 +690,7 @@ def copied_tree(folder):
 )  # fmt: skip
 def stand_in(tally, folder):
     tree = copied_tree(folder)
-    path = tree / "target" / "bin" / "kitchen"
+    path = tree / PLACE
     texts = [larder_in(tree / "jobs"), *SAMPLES]
     files = {text: kitchen.written(stated(text.read_bytes()).job) for text in texts}
     script(path, f'exec "{KITCHEN}"')
@@ -1161,7 +1164,7 @@ def none_at_all(tally):
 def put_libraries(tree):
     """Into a tree come libraries that cannot be used, in turn, each with what is said of it; and at last one that can."""
     path, module = tree / "target" / "lib" / "libkitchen.so", tree / "host" / "kitchen.py"
-    path.parent.mkdir()
+    path.parent.mkdir(parents=True)
     for label, content, version, phrase in (
         ("missing", None, kitchen.VERSION, "libkitchen.so is missing; build it with tools/library"),
         ("empty", b"", kitchen.VERSION, f"{path} is no library of ours"),
@@ -1181,7 +1184,7 @@ def put_libraries(tree):
 def unusable_libraries(tally, folder):
     """Without a library of this version nothing is told of a text; without --next all is."""
     tree = copied_tree(folder)
-    shutil.copy(KITCHEN, tree / "target" / "bin")
+    shutil.copy(KITCHEN, tree / PLACE)
     call = ["tools/job", "ask", "--next", "1"]
     for label, phrase in put_libraries(tree):
         status, output, errors = ran([*call, "jobs/kitchen.txt"], cwd=tree)
@@ -1272,7 +1275,7 @@ def lies_about_bounds(tally, path):
 def bound_libraries(tally, folder):
     """Without a library of this version nothing is told if --bound is asked for; without --bound all is."""
     tree = copied_tree(folder)
-    shutil.copy(KITCHEN, tree / "target" / "bin")
+    shutil.copy(KITCHEN, tree / PLACE)
     advised = ran(["tools/job", "advise", "jobs/impossible.txt"])
     for label, phrase in put_libraries(tree):
         status, output, errors = ran(["tools/job", "advise", "--bound", "jobs/impossible.txt"], cwd=tree)
@@ -1438,7 +1441,7 @@ def lies_about_prices(tally):
 def price_libraries(tally, folder):
     """Without a library of this version nothing is told if --rate is given; without it all is."""
     tree = copied_tree(folder)
-    shutil.copy(KITCHEN, tree / "target" / "bin")
+    shutil.copy(KITCHEN, tree / PLACE)
     asked = ran(["tools/job", "ask", "jobs/prices.txt"])
     for label, phrase in put_libraries(tree):
         status, output, errors = ran(["tools/job", "ask", "--rate", "19", "jobs/prices.txt"], cwd=tree)

@@ -10,8 +10,8 @@ from showroom.rules import Broken, own_sum
 from showroom.rules import try_aside, try_no_plan, try_no_selection, try_place, try_plan, try_priced, try_selection, try_smallest
 
 ROOT = pathlib.Path(__file__).resolve().parent.parent.parent
-# Where the program is in the project, built by `rt check kitchen`, and where in an unpacked distribution.
-PLACES = (ROOT / "target" / "bin" / "kitchen", ROOT / "bin" / "kitchen")
+# Where the program is in the project, built by `rt run` in its crate's folder, and where in an unpacked distribution.
+PLACES = (ROOT / "crates" / "kitchen" / "out" / "kitchen", ROOT / "bin" / "kitchen")
 
 CHOSEN = re.compile(r"chosen((?: [0-9]{1,2})*)\naside((?: [0-9]{1,2})*)\n")
 NO_CHOICE = re.compile(r"refused 14 at ([01])\n")
@@ -25,7 +25,7 @@ class Failed(Exception):
 def program():
     path = next((path for path in PLACES if path.exists()), None)
     if path is None:
-        raise Failed(f"{PLACES[0]} is missing; build it with 'rt check kitchen'")
+        raise Failed(f"{PLACES[0]} is missing; build it with 'rt run' in crates/kitchen")
     return path
 
 
