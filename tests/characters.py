@@ -1,4 +1,4 @@
-"""Whether the table of crates/unicode is what Unicode says of its characters; tools/unicode_table.py writes it.
+"""Whether the table of crates/unicode_forms is what Unicode says of its characters; tools/unicode_table.py writes it.
 
 The files of the table are read below a root folder, so that a test can plant a fault in a copy.
 """

@@ -20,7 +20,7 @@ import interface
 from run import Failed, enough, tried
 
 HERE = pathlib.Path(__file__).resolve().parent.parent
-CAPI = (HERE / "crates" / "capi" / "src" / "lib.rt").read_text()
+CAPI, EXPORTS = ((HERE / "crates" / name / "src" / "lib.rt").read_text() for name in ("capi", gate.ARCHIVE))
 HEADER = (HERE / "include" / "kitchen.h").read_text()
 TABLE = (HERE / edits.TABLE).read_text()
 
@@ -105,23 +105,33 @@ WRONG_HEADERS = {
 
 
 def headers(folder):
-    passes("our header", interface.same_prototypes, HEADER, CAPI)
-    passes("our header for a compiler", interface.compiled, CAPI, folder, HERE / "include")
+    passes("our header", interface.same_prototypes, HEADER, EXPORTS)
+    passes("our header for a compiler", interface.compiled, EXPORTS, folder, HERE / "include")
     for label, (old, new, seen) in WRONG_HEADERS.items():
         wrong = changed(HEADER, old, new)
         (folder / "kitchen.h").write_text(wrong)
         if seen >= WORDS:
-            found(label, "the header declares ", interface.same_prototypes, wrong, CAPI)
+            found(label, "the header declares ", interface.same_prototypes, wrong, EXPORTS)
         if seen >= TYPES:
-            found(f"{label}, for a compiler", "redeclared.c", interface.compiled, CAPI, folder, folder)
+            found(f"{label}, for a compiler", "redeclared.c", interface.compiled, EXPORTS, folder, folder)
     for label, old, new in (
-        ("capi with another width", "floor: u64,", "floor: u32,"),
-        ("capi with swapped arguments", "live: u64,\n    goal: u64,", "goal: u64,\n    live: u64,"),
-        ("capi that lends a file to be written", "fn kitchen_name(file: &[u8]", "fn kitchen_name(file: &mut [u8]"),
+        ("capi_c with another width", "floor: u64,", "floor: u32,"),
+        ("capi_c with swapped arguments", "live: u64,\n    goal: u64,", "goal: u64,\n    live: u64,"),
+        ("capi_c that lends a file to be written", "fn kitchen_name(file: &[u8]", "fn kitchen_name(file: &mut [u8]"),
     ):
-        found(label, "the header declares ", interface.same_prototypes, HEADER, changed(CAPI, old, new))
-    found("a function that is not exported", "no_mangle", interface.prototypes, CAPI.replace("#[no_mangle]\n", "", 1))
-    found("a parameter that C cannot have", "which C cannot have", interface.prototypes, changed(CAPI, "floor: u64,", "floor: bool,"))
+        found(label, "the header declares ", interface.same_prototypes, HEADER, changed(EXPORTS, old, new))
+        found(f"{label}, beside capi", " in capi, and ", interface.same_functions, CAPI, changed(EXPORTS, old, new))
+    passes("the functions of capi", interface.same_functions, CAPI, EXPORTS)
+    clause = "    ensures { result ≡ interface_number }\n"
+    found("capi_c that promises less", " in capi, and ", interface.same_functions, CAPI, changed(EXPORTS, clause, ""))
+    found("capi_c that asks for more", " in capi, and ", interface.same_functions, CAPI, changed(EXPORTS, clause, f"    requires {{ 0 < 1 }}\n{clause}"))
+    for label, old, new in (
+        ("a call that is not exported", "pub fn kitchen_version(", "pub fn kitchen_news() -> u32 {\n    0\n}\n\npub fn kitchen_version("),
+        ("a call that capi lacks", "pub fn kitchen_version(", "fn kitchen_version("),
+    ):
+        found(label, "and capi_c exports", interface.same_functions, changed(CAPI, old, new), EXPORTS)
+    found("a function that is not exported", "no_mangle", interface.prototypes, EXPORTS.replace("#[unsafe(no_mangle)]\n", "", 1))
+    found("a parameter that C cannot have", "which C cannot have", interface.prototypes, changed(EXPORTS, "floor: u64,", "floor: bool,"))
 
 
 def every_call(folder):
@@ -241,8 +251,8 @@ def databases(folder):
     installed.write_text(database())
     passes("the same data, installed", compared, folder)
     for label, text, words in (
-        ("another mapping", database({0x132: ("0049 004A", 0)}), "U+0132 in crates/unicode/src/table.rt is 0x00_000_132, and not 0x00_04a_049 (by /"),
-        ("another class", database({0x34F: ("", 230)}), "U+034F in crates/unicode/specs/Table.antt is 0x00_000_34f, and not 0xe6_000_34f (by /"),
+        ("another mapping", database({0x132: ("0049 004A", 0)}), "U+0132 in crates/unicode_forms/src/table.rt is 0x00_000_132, and not 0x00_04a_049 (by /"),
+        ("another class", database({0x34F: ("", 230)}), "U+034F in crates/unicode_forms/specs/Table.antt is 0x00_000_34f, and not 0xe6_000_34f (by /"),
         ("a character missing", database({0x344: None}), "UnicodeData.txt: U+0344 is missing"),
         ("a character there twice", database() + "0041;NAME;Lo;0;L;;;;;N;;;;;\n", "UnicodeData.txt: line 897 has U+0041 once more"),
     ):
@@ -277,7 +287,7 @@ def written_tables(folder):
     check(told(wrong) == (0, "304 entries are written into both files\n", there), "the script writes both files")
     check(told(there, "--compare") == (0, "304 entries are the same in both files\n", there), "the script compares both files")
     status, printed, left = told(wrong, "--compare")
-    check((status, left) == (1, wrong) and printed.count("U+0132 in crates/unicode/") == 2, f"the script finds what differs: {printed}")
+    check((status, left) == (1, wrong) and printed.count("U+0132 in crates/unicode_forms/") == 2, f"the script finds what differs: {printed}")
     for label, given, before, words in (
         ("no line of the file", "junk\n" + good, there, "data: line 1 is no line of UnicodeData.txt"),
         ("a line with a field less", good.replace(";;;;N;;;;;\n", ";;;;N;;;;\n", 1), there, "data: line 1 is no line"),
@@ -298,45 +308,74 @@ def written_tables(folder):
 
 # ---- must-fail edits
 
-AT = "/a/target/must-fail/one/wrong/"
 GOOD_LOGS = (
-    "proofs/f/Proof.antt:12:13: error: `returns`: `search`: no proof of `a ≡ b`",
-    "proofs/f/Proof.antt:11:17: error: `cast-result`: `omega`: the part `.fits` of the goal does not follow from what it read. All of that holds",
-    "proofs/f/Proof.antt:11:17: error: `returns`: `omega`: a listed rule proves the goal from `a < 0`\n  and that does not follow from what it read",
-    "proofs/f/Proof.antt:14:14: error: `returns`: as printed, the two types first differ where one has `64` (expected)",
-    "proofs/Laws.antt:14:14: error: `law`: computed as far as they go, the two types differ only where one has `1`",
-    "proofs/f/Proof.antt:65:38: error: `returns`: expected type `a < b`\n  but this has type `a ≤ b`",
-    "proofs/Laws.antt:9:13: error: `law`: give a proof of that as the last argument, `rw L t`\n"
-    "  `rw` has no last argument, so what it leaves must be a path whose two ends are equal, and `a ≡ b`\n  is none",
-    "proofs/f/Proof.antt:19:56: error: `returns`: list the missing equation with its arguments, or rewrite by `rw` or `simp`\n"
-    "  `cc` met a bound of its own before the equations had joined `a` to `true`",
+    "./proofs/f/Answers.antt:12:13: error: `returns`: `search`: no proof of `a ≡ b`",
+    "proofs/f/Answers.antt:11:17: error: `overflow_cast-result`: `omega`: the part `.fits` of the goal does not follow from what it read. All of that holds",
+    "./proofs/f/Answers.antt:11:17: error: `returns`: `omega`: a listed rule or a hypothesis proves the goal from `a < 0`, and that does not follow from what it read",
+    "./proofs/f/Answers.antt:14:14: error: `returns`: as printed, the two types first differ where one has `64` (expected)",
+    "./proofs/Laws.antt:14:14: error: `law`: computed as far as they go, the two types differ only where one has `1`",
+    "./proofs/f/Proof.antt:65:38: error: `returns`: expected type `a < b`, but this has type `a ≤ b`",
+    "./proofs/Laws.antt:9:13: error: `law`: give a proof of that as the last argument, `rw L t` (`rw L ?` shows it as a hole's goal), or add what is",
+    "./proofs/f/Answers.antt:19:56: error: `returns`: list the missing equation with its arguments, or rewrite by `rw` or `simp`",
+    "note: src/word.rt:65:18: it is not proved that the index is below the slice's length (`bounds-bytes-at-2`); `search` gave up at one of its limits",
 )
+# Errors that are cut: so much of them is told.
+CUT_LOGS = (
+    "./proofs/f/Answers.antt:15:54: error: `returns-then-file-kind`: expected type `◌≡◌ (get_or c.args.file.now 0 0)",
+    "./proofs/Fair/Answers.antt:15:54: error: `returns`: `omega`: the part",
+    "./proofs/Fair/Answers.antt:15:54: error: `returns`: as printed, the t",
+)
+NAMES_ALONE = " (only because a proof file names what the edit took away, so this says little of the contract: change a value and keep the names): "
 BAD_LOGS = {
-    "a name that is not in scope": ("proofs/f/Proof.antt:12:13: error: `returns`: `taken` is not in scope", "no failed fact"),
-    "a need that is gone": ("proofs/f/Proof.antt:12:13: error: `f-spec`: the module has no `Need-returns-2`", "no failed fact"),
-    "a field that is gone": ("proofs/f/Proof.antt:12:13: error: `returns`: record `f.Lts.Then1` has no field `args`", "no failed fact"),
-    "a definition that is gone": ("proofs/Laws.antt:3:1: error: module `specs.Sets` has no `lowest` that can be named from here", "no failed fact"),
-    "a fact that comes after": ("proofs/f/Proof.antt:12:13: error: `returns`: `taken` is not in scope\nnote: `search`: no proof of `a ≡ b`", "no failed fact"),
-    "a proof that cannot be read": ("proofs/f/Proof.antt:12:13: error: expected a term, found `)`", "no failed fact"),
-    "a definition that has no type": ("specs/Rules.antt:3:1: error: `rule`: as printed, the two types first differ where one has `ℕ`", "in no proof"),
+    "a name that is not in scope": (": ./proofs/f/Answers.antt:12:13: error: `returns`: `taken` is not in scope", "no failed fact"),
+    "a goal that is gone": (NAMES_ALONE + "./proofs/f/Answers.antt:12:13: error: `returns-2`: module `Rattle.one.proofs.f.Goals` has no `returns-2`", "no failed fact"),
+    "a fact beside names alone": (f"{NAMES_ALONE}{GOOD_LOGS[0]}", "no failed fact"),
+    "a limit": (f" (only by a limit of the prover, which gave no verdict, so this says less of the contract: choose a change that it refuses sooner): {GOOD_LOGS[0]}", "no failed fact"),
+    "a field that is gone": (": ./proofs/f/Answers.antt:12:13: error: `returns`: record `f.Lts.Then1` has no field `args`", "no failed fact"),
+    "a definition that is gone": (": ./proofs/Laws.antt:3:1: error: module `Rattle.one.specs.Sets` has no `lowest` that can be named from here", "no failed fact"),
+    "a fact that comes after": (": ./proofs/f/Answers.antt:12:13: error: `returns`: `taken` is not in scope: `search`: no proof of `a ≡ b`", "no failed fact"),
+    "a proof that cannot be read": (": ./proofs/f/Answers.antt:12:13: error: expected a term, found `)`", "no failed fact"),
+    "a definition that has no type": (": ./specs/Rules.antt:3:1: error: `rule`: as printed, the two types first differ where one has `ℕ`", "in no proof"),
+    "another note": (": note: src/word.rt:65:18: this function calls itself", "no failed fact"),
+    "a type that is expected": (": ./proofs/f/Answers.antt:12:13: error: `returns`: expected type `ℕ`", "no failed fact"),
     "nothing": ("", "names no fact"),
-    "what rests on something else": ("proofs/f/Proof.antt:1:1: error: `f-spec`: `returns` was not admitted", "names no fact"),
+    "what rests on something else": (": ./proofs/f/Answers.antt:1:1: error: `f-spec`: `returns` was not admitted", "no failed fact"),
 }
 
 
+def told(why, label="wrong"):
+    return f"rt: must-fail one/{label}.edit: refused, as it must be{why}"
+
+
+def why_of(line):
+    return edits.refusals(line)["one", "wrong"]
+
+
 def logs():
-    scope = AT + BAD_LOGS["a name that is not in scope"][0]
     for log in GOOD_LOGS:
-        passes(log, edits.refused_for, f"{AT}{log}\n{scope}\nlogic=not-proved\n")
-        found(f"after another error: {log}", "no failed fact", edits.refused_for, f"{scope}\n{AT}{log}\nlogic=not-proved\n")
+        passes(log, edits.refused_for, why_of(told(f": {log}")))
+    for log in CUT_LOGS:
+        found(f"not cut: {log}", "no failed fact", edits.refused_for, f": {log}")
+        long = log.replace("./proofs/", f"./proofs/{'x' * (edits.CUT - len(log) - 1)}/")
+        passes(f"cut: {log}", edits.refused_for, f": {long}")
     for label, (log, words) in BAD_LOGS.items():
-        found(f"a log of {label}", words, edits.refused_for, f"{AT}{log}\nlogic=not-proved\n")
-    note = f"note: {AT}src/lib.rt:1:2: it is not proved that the index is in range\n"
-    for log in ("", BAD_LOGS["what rests on something else"][0]):
-        passes("a fact in a note", edits.refused_for, f"{note}{AT}{log}\nlogic=not-proved\n")
+        found(f"a log of {label}", words, edits.refused_for, why_of(told(log)))
+    check(edits.refusals("\n".join([told(""), "rt: must-fail one/other.edit: NOT REFUSED: the crate is still proved", "rt: one proved"])) == {("one", "wrong"): ""}, "the edits that were refused")
 
 
-ROW = "says (planOf fileF (nines 3)) (answered 2)"
+def refused(folder):
+    """The edits of a tree beside what rt said of them."""
+    (folder / "crates" / "one" / "must-fail").mkdir(parents=True)
+    for label in ("wrong", "worse"):
+        (folder / "crates" / "one" / "must-fail" / f"{label}.edit").write_text("")
+    lines = [told(f": {GOOD_LOGS[0]}", label) for label in ("wrong", "worse")]
+    passes("what rt said of two edits", edits.all_refused, folder, "\n".join(lines))
+    found("an edit of which rt says nothing", "1 must-fail edits: one/worse: rt does not say", edits.all_refused, folder, lines[0])
+    found("an edit that is not refused", "1 must-fail edits: one/worse: rt does not say", edits.all_refused, folder, "\n".join([lines[0], lines[1].replace("refused, as it must be", "NOT REFUSED")]))
+    found("an edit refused for no fact", "1 must-fail edits: one/wrong: ", edits.all_refused, folder, "\n".join([told(": nothing"), lines[1]]))
+
+
+ROW = "says (plan_of file_f (nines 3)) (answered 2)"
 CHANGE = "file: src/lib.rt\nold: a + b\nnew: a - b\n"
 INPUT = "input: the file F of the rules\n"
 GOOD_EDITS = {
@@ -346,10 +385,15 @@ GOOD_EDITS = {
     "a row": ("calls", f"{CHANGE}row: {ROW}\n"),
     "a row and an input": ("report", f"{INPUT}row: {ROW}\n{CHANGE}"),
     "a row of another crate": ("planner", f"{INPUT}row: {ROW}\n{CHANGE}"),
-    "a row that it changes": ("examples", f"file: specs/Table.antt\nold: {ROW}\nnew: says (planOf fileF (nines 3)) (answered 3)\nrow: {ROW}\n"),
+    "goals that follow the code": ("sets", CHANGE + "file: proofs/f/Answers.antt\nold: pub returns-a-ge3 : goal.returns-a-ge3\nnew: pub returns-a-ge4 : goal.returns-a-ge4\nold: c.if-a-ge3.true\nnew: c.if-a-ge4.true\n" + INPUT),
+    "a row that it changes": ("examples", f"file: specs/Table.antt\nold: {ROW}\nnew: says (plan_of file_f (nines 3)) (answered 3)\nrow: {ROW}\n"),
 }  # fmt: skip
 BAD_EDITS = {
     "an edit of a proof": ("sets", CHANGE.replace("src/lib.rt", "proofs/f/Proof.antt") + INPUT, "not code in src/"),
+    "an edit of an answer": ("sets", CHANGE + "file: proofs/f/Answers.antt\nold: returns-a c = refl\nnew: returns-b c = sym refl\n" + INPUT, "not only the names of goals"),
+    "an edit of a law that is cited": ("sets", CHANGE + "file: proofs/f/Answers.antt\nold: pasted-end c\nnew: pasted-start c\n" + INPUT, "not only the names of goals"),
+    "an edit of another kind of goal": ("sets", CHANGE + "file: proofs/f/Answers.antt\nold: returns-a c\nnew: loop-a c\n" + INPUT, "not only the names of goals"),
+    "an edit of a goal's name alone": ("sets", "file: proofs/f/Answers.antt\nold: returns-a c\nnew: returns-b c\n" + INPUT, "no code in src/"),
     "an edit of a proof after one of code": ("sets", CHANGE + "file: proofs/Bits.antt\nold: a\nnew: b\n" + INPUT, "not code in src/"),
     "an edit by a way round": ("sets", CHANGE.replace("src/lib.rt", "src/../proofs/Bits.antt") + INPUT, "not code in src/"),
     "no input": ("sets", CHANGE, "lacks a line 'input'"),
@@ -363,7 +407,7 @@ BAD_EDITS = {
     "a row that is not there": ("calls", f"{CHANGE}row: {ROW.replace('answered 2', 'answered 3')}\n", "is 0 times"),
     "a row that is not there, of another crate": ("planner", f"{CHANGE}{INPUT}row: {ROW.replace('answered 2', 'answered 3')}\n", "is 0 times"),
     "words of many rows": ("capi", CHANGE + "row: (answered 2)\n", "and is 0 of its rows"),
-    "words of a row without its answer": ("capi", CHANGE + "row: says (planOf fileF (nines 3))\n", "and is 0 of its rows"),
+    "words of a row without its answer": ("capi", CHANGE + "row: says (plan_of file_f (nines 3))\n", "and is 0 of its rows"),
     "another row than it changes": ("examples", f"file: specs/Table.antt\nold: (answered 6)\nnew: (answered 7)\nrow: {ROW}\n", "another row"),
     "nothing that is changed": ("sets", INPUT, "it takes 'file'"),
     "old words without new ones": ("sets", "file: src/lib.rt\nold: a\n" + INPUT, "it takes 'file'"),
@@ -376,7 +420,7 @@ def edit_files(folder):
         passes(f"an edit with {label}", edits.said, crate, text, TABLE)
     for label, (crate, text, words) in BAD_EDITS.items():
         found(f"an edit with {label}", words, edits.said, crate, text, TABLE)
-    hidden = TABLE.replace(ROW, "says (planOf fileF (nines 3)) (answered 3)") + f"-- {ROW}\n"
+    hidden = TABLE.replace(ROW, "says (plan_of file_f (nines 3)) (answered 3)") + f"-- {ROW}\n"
     found("a row in a comment", "is 0 of its rows", edits.said, "calls", GOOD_EDITS["a row"][1], hidden)
     for crate, text in (("one", CHANGE + INPUT), ("two", CHANGE)):
         (folder / "crates" / crate / "must-fail").mkdir(parents=True)
@@ -495,8 +539,8 @@ def architecture(folder):
         with planted(path, old, new):
             found(label, words, declared.drawn, folder)
     for label, old, new, words in (
-        ("a definition that the crate lacks", "`lowestNamed`; `alike`", "`lowestNamed`, `contribution`; `alike`", "contribution (main definitions of names)"),
-        ("a theorem that is none", "`name-symmetric`, `name-transitive`", "`name-symmetric`, `sameName`", "sameName (main theorems of names)"),
+        ("a definition that the crate lacks", "`lowest_named`; `alike`", "`lowest_named`, `contribution`; `alike`", "contribution (main definitions of names)"),
+        ("a theorem that is none", "`name-symmetric`, `name-transitive`", "`name-symmetric`, `same_name`", "same_name (main theorems of names)"),
         ("a function of another crate", "`same_bytes`, `equal`,", "`same_bytes`, `equal`, `first_bad`,", "first_bad (main functions of names)"),
         ("a crate for a function", "`same_bytes`, `equal`,", "`filter`, `equal`,", "filter (main functions of names)"),
         ("a file that is not there", "in `likeness.rt`", "in `likenes.rt`", "likenes.rt (main functions of names)"),
@@ -536,16 +580,97 @@ def least_counts():
         found("a sort that is not compared", "refused 2: 0 and not 5", gate.counted, "refused 1: 9, refused 12: 7", {"refused 1": 9, "refused 2": 5})
 
 
+VERDICT = "logic=proved functions=12 axioms=2 target=x86_64-unknown-linux-gnu sum=0"
+AXIOMS = ["axioms libc: 2 reached of the 3 declared", "  libc::read   reached", "  libc::sync", "  libc::write   reached"]
+
+
 def verdicts():
-    check(gate.assumed("logic=proved functions=12 target=x86_64-unknown-linux-gnu sum=0") == 0, "a library that assumes nothing")
-    check(gate.assumed("logic=proved functions=12 axioms=2 target=x86_64-unknown-linux-gnu sum=0") == 2, "a library that assumes two C functions")
-    found("a verdict that counts no C functions", "counts no C functions", gate.assumed, "logic=proved functions=12 sum=0")
+    check(gate.assumed(["axioms libc: none reached of the 128 declared", VERDICT.replace(" axioms=2", "")]) == [], "a library that assumes nothing")
+    check(gate.assumed([*AXIOMS, VERDICT]) == ["read", "write"], "a library that assumes two C functions")
+    for label, lines, words in (
+        ("that counts no C functions", ["logic=proved functions=12 sum=0"], "counts no C functions"),
+        ("that is none", [], "counts no C functions"),
+        ("of a crate that is not proved", [*AXIOMS, VERDICT.replace("proved", "not-proved")], "counts no C functions"),
+        ("that counts more", [*AXIOMS, VERDICT.replace("axioms=2", "axioms=3")], "counts 3 C functions, and lists"),
+        ("that counts none of those that are listed", [*AXIOMS, VERDICT.replace(" axioms=2", "")], "and lists"),
+        ("without a list", [VERDICT.replace(" axioms=2", "")], "lists no C functions"),
+    ):
+        found(f"a verdict {label}", words, gate.assumed, lines)
+    rows = "| program | C functions assumed |\n| `one`, the first | `axioms=0` (none) |\n| `two` | `axioms=2` (write, read) |\n"
+    check(gate.stated_assumptions(rows) == {"one": (0, []), "two": (2, ["read", "write"])}, "what is stated of two programs")
+    passes("verdicts without C functions", gate.no_foreign, "logic=proved functions=1 sum=0\nrt: one proved\n")
+    found("a verdict of a crate with C functions", "declares C functions", gate.no_foreign, "logic=proved functions=1 foreign=c::f sum=0\n")
+    found("a verdict that is none", "not proved", gate.no_foreign, "logic=not-proved functions=1 sum=0\n")
+
+
+OK = "rt: ok; handles allowed: none; must-fail edits: 2 refused; every proof and must-fail edit was done in this run"
+
+
+def ends():
+    """The line of rt that all is well, beside two crates and two edits."""
+    names = {"proved": ["one", "two"], "must-fail": ["one/a", "two/b"]}
+    for line in (OK, OK.replace("2 refused;", "2 refused, 1 of them only by a limit;")):
+        passes(line, gate.all_well, [f"{line}\n"], names, 4)
+    for label, lines, count, words in (
+        ("bad edits", [OK.replace("refused;", "refused, 1 bad;")], 4, "bad must-fail edits"),
+        ("bad edits beside a limit", [OK.replace("refused;", "refused, 1 of them only by a limit, 3 bad;")], 4, "bad must-fail edits"),
+        ("fewer edits", [OK.replace("2 refused", "1 refused")], 3, "refused 1 of 2"),
+        ("no edits", ["rt: ok; handles allowed: none; every proof and must-fail edit was done in this run"], 2, "has to say once"),
+        ("a handle", [OK.replace("allowed: none", "allowed: Wait")], 4, "has to say once"),
+        ("no such line", [], 4, "has to say once"),
+        ("two such lines", [OK, OK], 4, "has to say once"),
+        ("another count", [OK], 5, "rt counts 5"),
+    ):
+        found(f"rt with {label}", words, gate.all_well, [f"{line}\n" for line in lines], names, count)
+
+
+def own_code(folder):
+    """A tree of two crates, one of which is for C."""
+    code = "// extern\n#[unsafe(no_mangle)]\npub extern \"C\" fn f() -> u32 {\n    0\n}\n"
+    needs = {"one": ["two", "std"], "two": []}
+    for name in needs:
+        (folder / "crates" / name / "src").mkdir(parents=True)
+        (folder / "crates" / name / "src" / "lib.rt").write_text(code)
+    passes("code of our own", gate.all_own, folder, needs)
+    path = folder / "crates" / "two" / "src" / "lib.rt"
+    for label, old, new in (
+        ("a function of C", "// extern\n", "unsafe extern \"C\" {\n    fn g() -> u32;\n}\n"),
+        ("a function that is exported otherwise", "#[unsafe(no_mangle)]", "#[unsafe(export_name = \"g\")]"),
+    ):
+        with planted(path, old, new):
+            found(label, "two: lib.rt has extern", gate.all_own, folder, needs)
+    for word in ("libc", "os"):
+        found(f"a crate that lists {word}", f"two: crates.txt lists {word}", gate.all_own, folder, {**needs, "two": [word]})
+    (folder / "crates" / "one" / "c").mkdir()
+    found("code in C", "one has a folder c/", gate.all_own, folder, needs)
+
+
+LAID_OUT = "// One.\n#![tactic(auto)]\n\npub fn one() -> u32 {\n    1\n}\n"
+
+
+def out_of_layout(folder):
+    """A tree of one crate, whose files are laid out or not."""
+    tree = folder / "tree"
+    for part, name, text in (("src", "lib.rt", LAID_OUT), ("specs", "Lib.antt", "pub mod One\n"), ("specs", "One.antt", "-- One.\n")):
+        (tree / "crates" / "one" / part).mkdir(parents=True, exist_ok=True)
+        (tree / "crates" / "one" / part / name).write_text(text)
+
+    def laid_out():
+        with tempfile.TemporaryDirectory() as room:
+            return gate.laid_out(tree, pathlib.Path(room))
+
+    passes("a crate that is laid out", laid_out)
+    for path, old, new in (("src/lib.rt", "    1\n", "  1\n"), ("src/lib.rt", "\n\npub", "\n\n\n\npub"), ("specs/Lib.antt", "pub mod", "pub  mod")):
+        with planted(tree / "crates" / "one" / path, old, new):
+            found(f"{path} that is not laid out", f"not in the layout of rt fmt: crates/one/{path}", laid_out)
+            check((tree / "crates" / "one" / path).read_text().count(new) == 1, f"{path} stays as it is")
 
 
 def main():
-    for part in (logs, least_counts, verdicts):
+    for part in (logs, least_counts, verdicts, ends):
         part()
-    for parts in ((headers,), (every_call,), (deleted_scripts,), (character_table,), (edit_files,), (declared_names, architecture, promises)):
+    alone = (headers, every_call, deleted_scripts, character_table, refused, edit_files, own_code, out_of_layout)
+    for parts in (*((part,) for part in alone), (declared_names, architecture, promises)):
         with tempfile.TemporaryDirectory() as folder:
             for part in parts:
                 part(pathlib.Path(folder))

@@ -12,7 +12,8 @@ WARNINGS = ["-Wall", "-Wextra", "-Werror", "-pedantic"]
 STRICT = [*WARNINGS, "-I", "include"]
 NUMBERS = {**{f"{sign}{bits}": f"{'u' if sign == 'u' else ''}int{bits}_t" for sign in "ui" for bits in (8, 16, 32, 64)}, "usize": "size_t"}
 EXPORTED = re.compile(r'#\[unsafe\(no_mangle\)\]\s*pub extern "C" fn (\w+)\(([^()]*)\)\s*->\s*(\w+)')
-OFFERED = re.compile(r"\bpub fn (kitchen_\w+)\(([^()]*)\)\s*->\s*(\w+)")
+# A function of capi or of capi_c from its name on to its body: its parameters, its result and its contract.
+SIGNATURE = r"fn (kitchen_\w+)\(([^()]*)\)\s*->\s*(\w+)(.*?)\n\{\n"
 DECLARED = re.compile(r"^([a-z]\w*(?: \w+)*[ *]+)(\w+)\s*\(([^()]*)\)\s*;", re.M)
 
 
@@ -45,9 +46,13 @@ def prototypes(exports):
 
 
 def same_functions(capi, exports):
-    """capi_c exports just the functions of capi whose names begin with `kitchen_`, with their parameters and results."""
-    signatures = ({name: (parameters_of(given), result) for name, given, result in form.findall(source.rattle(text))} for form, text in ((OFFERED, capi), (EXPORTED, exports)))
-    offered, exported = signatures
+    """capi_c exports just the functions of capi whose names begin with `kitchen_`, with their parameters, results and contracts."""
+
+    def functions(text, before):
+        found = re.findall(rf"^{before}{SIGNATURE}", source.rattle(text), re.M | re.S)
+        return {name: (parameters_of(given), result, " ".join(clauses.split())) for name, given, result, clauses in found}
+
+    offered, exported = functions(capi, "pub "), functions(exports, 'pub extern "C" ')
     demand(offered and sorted(offered) == sorted(exported), f"capi offers {sorted(offered)}, and capi_c exports {sorted(exported)}")
     for name, signature in offered.items():
         demand(exported[name] == signature, f"{name} is {signature} in capi, and {exported[name]} in capi_c")

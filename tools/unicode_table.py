@@ -1,5 +1,5 @@
 #!/usr/bin/env python3
-"""The table of crates/unicode: canonical mappings and combining classes, as UnicodeData.txt has them.
+"""The table of crates/unicode_forms: canonical mappings and combining classes, as UnicodeData.txt has them.
 
     tools/unicode_table.py FILE            writes the entries of FILE into both files of the table, between their marks
     tools/unicode_table.py FILE --compare  says which entries differ from those of FILE, and writes nothing
@@ -30,8 +30,8 @@ LINE = re.compile(f"({CODE});[^;]*;[A-Z][a-z];([0-9]{{1,3}});[A-Z]+;((?:<[A-Za-z
 # A file of the table: what an entry has behind it, how many are in a line, and the lines around the two marks.
 Part = namedtuple("Part", "path sign row opens closes")
 PARTS = (
-    Part("crates/unicode/src/table.rt", ",", 1, "const TABLE: [u32; 304] = [", "];"),
-    Part("crates/unicode/specs/Table.antt", " ∷", 8, "table =", "[]"),
+    Part("crates/unicode_forms/src/table.rt", ",", 1, "const TABLE: [u32; 304] = [", "];"),
+    Part("crates/unicode_forms/specs/Table.antt", " ∷", 8, "table =", "[]"),
 )
 
 
@@ -166,7 +166,7 @@ def write(wanted):
 
 def main():
     parser = argparse.ArgumentParser(
-        description="The table of crates/unicode, from UnicodeData.txt: its entries are written into both files of the table.",
+        description="The table of crates/unicode_forms, from UnicodeData.txt: its entries are written into both files of the table.",
         epilog="Status: 0 written, or nothing differs; 1 some entries differ; 2 something is not as it has to be.",
     )
     parser.add_argument("file", metavar="FILE", type=pathlib.Path, help="UnicodeData.txt of the Unicode Character Database")
