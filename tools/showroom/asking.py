@@ -30,7 +30,7 @@ def program():
 
 
 def printed(file, limit=None):
-    """What kitchen prints of these bytes. The language has no exit status, so status 0 alone says nothing."""
+    """What kitchen prints of these bytes. It ends with 0 whatever it prints, so status 0 alone says nothing."""
     path = program()
     try:
         run = subprocess.run([path], input=file, capture_output=True, timeout=limit)
