@@ -544,7 +544,7 @@ def architecture(folder):
         ("a function of another crate", "`same_bytes`, `equal`,", "`same_bytes`, `equal`, `first_bad`,", "first_bad (main functions of names)"),
         ("a crate for a function", "`same_bytes`, `equal`,", "`filter`, `equal`,", "filter (main functions of names)"),
         ("a file that is not there", "in `likeness.rt`", "in `likenes.rt`", "likenes.rt (main functions of names)"),
-        ("a tool that is not there", "`tools/library` builds", "`tools/libraries` builds", "tools/libraries (main functions of capi)"),
+        ("a tool that is not there", "`tools/library` builds", "`tools/libraries` builds", "tools/libraries (main functions of capi_c)"),
     ):
         with planted(page, old, new):
             found(label, words, declared.described, folder)

@@ -1,6 +1,6 @@
 """Tests of ./test and ./bench. Called as `python3 -B tests/runner.py` in the repository's root.
 
-They run in a temporary copy without target/, where rt, cc, rustc and apt-get are stand-ins that write down each call.
+They run in a temporary copy without target/, where rt, cc, rustc and apt-get are stand-ins that write down each call, and rt the folder of it.
 The last line is `N checks`, and the status 0; or what failed is printed, and the status is 1.
 """
 import pathlib
@@ -17,18 +17,25 @@ HERE = pathlib.Path(__file__).resolve().parent.parent
 STAND_IN = """#!/bin/sh
 echo "$(basename "$0") $*" >> "$CALLS"
 case "$(basename "$0") $*" in
-'rt ci') rm -rf target; cat "$REPORT"; exit "$STATUS" ;;
+rt*) echo "in $(basename "$PWD")" >> "$CALLS" ;;
+esac
+case "$(basename "$0") $*" in
+'rt ci') cat "$REPORT"; exit "$STATUS" ;;
 rustc*) printf '#!/bin/sh\\necho "measured $*"\\n' > target/bench/bench; chmod +x target/bench/bench ;;
 *' install '*) for name in clasp gringo cadical cbc; do cp "$0" "$(dirname "$0")/$name"; done ;;
 esac
 """
 
-REPORT = """fn one::a: proved
-rt: one proved (2 s)
-rt: two proved (3 s)
-rt: must-fail one/wrong: refused, as it must be (first at src/lib.rt:15:1; 4 s)
-rt: two ran as nobody, and wrote what its file 'stdout' has (0 s)
-rt: ok, 2 crates proved, 1 must-fail edits refused
+REPORT = """rt: one is kept: an earlier run on this machine proved the same files over the same libraries
+rt: one: trying its must-fail edits (1)
+== two
+fn two::a: proved
+logic=proved functions=1 target=x86_64-unknown-linux-gnu sum=0
+rt: two proved
+rt: must-fail one/wrong.edit: refused, as it must be: ./proofs/f/Answers.antt:8:13: error: `returns`: as printed, the two types differ only where one has `x`
+rt: two ran, and wrote what its file stdout has
+rt: two ran (built by Rattle's own compiler), and wrote what its file stdout has
+rt: ok; handles allowed: none; must-fail edits: 1 refused; every proof and must-fail edit was done in this run
 3 passed, 0 failed
 """
 
@@ -116,20 +123,21 @@ class Copy:
 
     def __init__(self, folder):
         self.root, self.tools, self.calls, self.report = (folder / name for name in ("tree", "tools", "calls", "report"))
-        for name, text in {"crates.txt": "one:\ntwo: one\n", "crates/one/src/lib.rt": "", "crates/one/must-fail/wrong.edit": "", "crates/two/src/main.rt": ""}.items():
+        for name, text in {"crates.txt": "one:\ntwo: one\n", "crates/one/src/lib.rt": "", "crates/one/must-fail/wrong.edit": "", "crates/two/src/main.rt": "", "crates/capi_c/src/lib.rt": ""}.items():
             path = self.root / name
             path.parent.mkdir(parents=True, exist_ok=True)
             path.write_text(text)
         for name in ("tests", "tools"):
             (self.root / name).mkdir()
-        for path in (HERE / "test", HERE / "bench", HERE / "tools" / "unicode_table.py", *sorted((HERE / "tests").glob("*.py"))):
+        (self.root / ".ci").mkdir()
+        for path in (HERE / "test", HERE / "bench", HERE / ".ci" / "run", HERE / "tools" / "unicode_table.py", *sorted((HERE / "tests").glob("*.py"))):
             shutil.copy(path, self.root / path.relative_to(HERE))
         (self.root / "tests" / "least.py").write_text('CHECKS = {"prove_and_run": 3, "leaves_the_tree_clean": 1}\n')
         self.tools.mkdir()
         for name in ("rt", "cc", "rustc", "apt-get"):
             self.tool(name, STAND_IN)
         self.tool("python3", f'#!/bin/sh\nexec "{sys.executable}" "$@"\n')
-        for name in ("sh", "basename", "dirname", "cat", "chmod", "cp", "mkdir", "rm"):
+        for name in ("sh", "bash", "basename", "dirname", "cat", "chmod", "cp", "mkdir", "rm"):
             (self.tools / name).symlink_to(shutil.which(name))
 
     def tool(self, name, text):
@@ -191,19 +199,37 @@ def the_list(copy):
 
 def reports_of_rt(copy):
     """What rt says is held against the tree."""
-    printed = copy.run(["./test", "prove_and_run"])[1]
-    equal("fn one::a: proved" in printed, False, "rt's own lines are not printed where all is well")
-    equal("[3/4]" in printed and "must-fail one/wrong (4 s)" in printed, True, f"progress: {printed}")
+    _, printed, _, calls = copy.run(["./test", "prove_and_run"])
+    equal(calls, "rt ci\nin tree\n", "rt is called once, with no names, at the top of the tree")
+    equal("fn two::a: proved" in printed, False, "rt's own lines are not printed where all is well")
+    equal("[4/5]" in printed and "must-fail one/wrong\n" in printed, True, f"progress: {printed}")
+    equal("rt: one: trying its must-fail edits (1)\n" in printed, True, f"what is begun: {printed}")
     equal((copy.root / "target" / "test.log").read_text(), REPORT, "target/test.log")
     equal(copy.result("prove_and_run"), (0, "3 passed, 0 failed"), "prove_and_run")
-    for line in REPORT.splitlines(keepends=True)[1:]:
-        if not line.startswith("rt: ok"):
+    for line in REPORT.splitlines(keepends=True):
+        if line.startswith("rt: ") and "trying" not in line:
             equal(copy.result("prove_and_run", report=REPORT.replace(line, "")), (1, "0 passed, 1 failed"), f"without {line}")
-    equal(copy.result("prove_and_run", report=REPORT.replace("3 passed", "4 passed")), (1, "0 passed, 1 failed"), "another count")
-    equal(copy.result("prove_and_run", report=REPORT.replace("two proved", "one proved")), (1, "0 passed, 1 failed"), "one crate twice")
+            equal(copy.result("prove_and_run", report=REPORT.replace(line, line + line)), (1, "0 passed, 1 failed"), f"twice {line}")
+    for label, old, new in (
+        ("another count", "3 passed", "4 passed"),
+        ("one crate twice", "two proved", "one proved"),
+        ("a crate that is not proved", "two proved", "two NOT PROVED"),
+        ("an edit that is not refused", "refused, as it must be", "NOT REFUSED"),
+        ("a bad edit", "refused, as it must be: ./", "BAD EDIT: ./"),
+        ("bad edits at the end", "1 refused;", "1 refused, 2 bad;"),
+        ("bad edits beside a limit", "1 refused;", "1 refused, 1 of them only by a limit, 2 bad;"),
+        ("no edits at the end", "; must-fail edits: 1 refused", ""),
+        ("fewer edits at the end", "1 refused;", "0 refused;"),
+        ("a handle", "allowed: none", "allowed: Net"),
+        ("a failure", "0 failed", "1 failed"),
+        ("a run by names", "0 failed", "0 failed (one and the crates below alone: not the gate)"),
+        ("a program that writes something else", "two ran, and wrote", "two: what the program wrote"),
+    ):
+        equal(REPORT.count(old), 1, f"what is changed for {label}")
+        equal(copy.result("prove_and_run", report=REPORT.replace(old, new)), (1, "0 passed, 1 failed"), label)
     equal(copy.result("prove_and_run", report=""), (1, "0 passed, 1 failed"), "rt says nothing")
     status, printed, _, _ = copy.run(["./test", "prove_and_run"], status=1)
-    equal((status, "fn one::a: proved" in printed), (1, True), "rt's lines are printed where it failed")
+    equal((status, "fn two::a: proved" in printed), (1, True), "rt's lines are printed where it failed")
     few = copy.root / "tests" / "least.py"
     few.write_text(few.read_text().replace("3", "4"))
     equal(copy.result("prove_and_run"), (1, "0 passed, 1 failed"), "fewer crates and edits than there have to be")
@@ -212,6 +238,33 @@ def reports_of_rt(copy):
     stray.write_text("")
     equal(copy.result("prove_and_run"), (1, "0 passed, 1 failed"), "an edit that rt does not see")
     stray.unlink()
+
+
+# A gate of rt ci alone.
+ALONE = """import sys
+from every_check import prove_and_run
+from run import main
+sys.exit(main([prove_and_run], [], each=prove_and_run, least={"prove_and_run": 3, "leaves_the_tree_clean": 1}))
+"""
+
+
+def what_ci_runs(copy):
+    """.ci/run calls rt ci once, with no names, at the top of the tree, touches nothing before, and fails where it fails or meets bad edits."""
+    gate_file, checks_file = copy.root / "tests" / "gate.py", copy.root / "tests" / "every_check.py"
+    gate_file.rename(checks_file)
+    gate_file.write_text(ALONE)
+    before = copy.stands()
+    for label, status, report, wanted in (
+        ("all is well", 0, REPORT, 0),
+        ("rt ci fails", 1, REPORT, 1),
+        ("rt ci is killed", 137, REPORT, 1),
+        ("there are bad edits", 0, REPORT.replace("1 refused;", "1 refused, 1 bad;"), 1),
+        ("rt ci says nothing", 0, "", 1),
+    ):
+        found, printed, _, calls = copy.run([".ci/run"], report=report, status=status)
+        equal((found, calls), (wanted, f"rt ci\nin {copy.root.name}\n"), f".ci/run where {label}: {printed}")
+        equal({path: content for path, content in copy.stands().items() if "/target" not in path}, {path: content for path, content in before.items() if "/target" not in path}, f".ci/run where {label}: the tree")
+    checks_file.rename(gate_file)
 
 
 def the_tools_are_there(copy):
@@ -263,6 +316,7 @@ def peers_of_the_bench(copy):
     equal((status, printed), (0, "measured --family a b --quick\n"), "./bench measures without the peers")
     equal(errors.rstrip().endswith(": clasp gringo cadical"), True, f"./bench says which are missing: {errors}")
     equal("apt-get" in calls, False, "./bench installs nothing unasked")
+    equal(calls.startswith("rt lib\nin capi_c\nrustc "), True, f"./bench builds the library of capi_c: {calls}")
     _, _, errors, _ = copy.run(["./bench", "--prices"])
     equal(errors.rstrip().endswith(": clasp gringo cbc"), True, f"./bench --prices says which are missing: {errors}")
     for word in ("--no-peers", "--pass", "--fair"):
@@ -278,7 +332,7 @@ def peers_of_the_bench(copy):
 
 with tempfile.TemporaryDirectory() as folder:
     small = Copy(pathlib.Path(folder))
-    for part in (nothing_is_touched, the_list, the_tools_are_there, reports_of_rt, planted_checks, peers_of_the_bench):
+    for part in (nothing_is_touched, the_list, the_tools_are_there, reports_of_rt, what_ci_runs, planted_checks, peers_of_the_bench):
         part(small)
 for failure in failures:
     print(failure)
