@@ -163,7 +163,7 @@ def named_under(root, section):
 
 def imported(text, module):
     """The names that a file of antt imports from a module."""
-    lists = re.findall(rf"^use {re.escape(module)}\.\{{([^}}]*)\}}", source.antt(text), re.M)
+    lists = re.findall(rf"^(?:pub )?use {re.escape(module)}\.\{{([^}}]*)\}}", source.antt(text), re.M)
     return {name.split(" as ")[0].strip() for names in lists for name in names.split(",") if name.strip()}
 
 

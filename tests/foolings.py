@@ -454,7 +454,7 @@ def with_promises(folder):
     lines = ["-- All of them.\n"]
     for module in declared.THEOREMS:
         stated = theorems(folder, module)
-        lines += [f"use {declared.import_of(module)}.{{{', '.join(part)}}}\n" for part in (stated[:1], stated[1:3], stated[3:])]
+        lines += [f"pub use {declared.import_of(module)}.{{{', '.join(part)}}}\n" for part in (stated[:1], stated[1:3], stated[3:])]
     (folder / declared.PROMISES).write_text("".join(lines))
     lib = folder / declared.LIB
     lib.write_text("\n".join([*(line for line in lib.read_text().splitlines() if line != "pub mod Promises"), "pub mod Promises", ""]))
@@ -495,7 +495,7 @@ def promises(folder):
         stated, one = folder / declared.theorem_file(module), theorems(folder, module)[0]
         table = page.read_text().partition(f"\n## {heading}\n")[2]
         row = next(line for line in table.splitlines() if f"`{one}`" in line)
-        first = f"use {declared.import_of(module)}.{{{one}}}\n"
+        first = f"pub use {declared.import_of(module)}.{{{one}}}\n"
         for label, path, old, new in (
             ("a theorem deleted", stated, f"pub {one} :", f"-- {one}\npub another-{one} :"),
             ("a theorem in a comment", stated, f"pub {one} :", f"-- pub {one} :"),
