@@ -1,7 +1,8 @@
 // The program: reads a job file from standard input and prints what comes of it.
 #![tactic(auto)]
 
-ghost use Rattle.std.specs.Prelude.{◌≤◌, length};
+ghost use Rattle.std.specs.Prelude.{◌≤◌, length, take};
+ghost use Rattle.std.specs.Io.KnownBytes.{Consumes};
 
 use std::io::Read;
 
@@ -10,8 +11,9 @@ const INPUT: usize = 4096;
 
 // Reads until `space` is full, the input ends or a read fails, and returns how many bytes it put at
 // the start of `space`.
-fn read_full(input: &mut impl Read, space: &mut [u8]) -> usize
-    ensures { result ≤ length space.new }
+fn read_full<R: Read>(input: &mut R, space: &mut [u8]) -> usize
+    ensures within { result ≤ length space.new }
+    ensures read { Consumes (R.remaining input.old) (R.remaining input.new) (take result space.new) }
 {
     let mut done = 0;
     while done < space.len() {
@@ -23,7 +25,8 @@ fn read_full(input: &mut impl Read, space: &mut [u8]) -> usize
     done
 }
 
-// A read or a write that fails ends the program like any other: RULES.md gives it no other status.
+// The status is 0 even if reading or writing fails, by docs/RULES.md: what was read before is taken for the
+// file, and after a failed write the page is cut off.
 fn main(rt: HostRuntime) {
     let mut space = [0u8; INPUT];
     let n = read_full(&mut rt.stdin(), &mut space);
