@@ -1,5 +1,6 @@
 // Puzzles whose steps follow from their numbers.
 #![tactic(auto)]
+
 ghost use Rattle.std.specs.Prelude.{◌≤◌, ◌<◌};
 
 use sets::word;

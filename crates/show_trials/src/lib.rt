@@ -1,6 +1,7 @@
 // Fittings that a program makes up: the job and its file, what the planner answers to it, and whether
 // that is right.
 #![tactic(auto)]
+
 mod file;
 pub mod rounds;
 
