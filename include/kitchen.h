@@ -78,7 +78,9 @@
  * plans MUST have a stack of 1 MB, within which our tests run the planner; the largest call that we measured takes
  * 266,408 bytes. With 128 KB the sample jobs/fitting.txt crashes. Of the other calls kitchen_price takes the most stack,
  * 90,344 bytes, as measured on 64 articles that neither clash nor share a wish. Those that save take 33,912 bytes, as
- * measured on the longest choice file, and kitchen_fair took 15,960 bytes at most in our bench.
+ * measured on the longest choice file, and kitchen_fair took 15,960 bytes at most in our bench. These figures, and those
+ * on time below, are of a library that an older kit built; in a run of the bench with today's, prices took up to a
+ * twentieth more of the stack, and plans no more.
  *
  * Time. No call can be interrupted, and none has a limit of time. In our bench a choice takes some thousandths of a
  * millisecond, and a plan mostly some hundredths to some tenths of one; the hardest plans in it take about a second, and
