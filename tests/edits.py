@@ -14,7 +14,7 @@ TABLE = "crates/examples/specs/Table.antt"
 FEW = 3  # the words that an input takes at least
 # What an edit may change in the files of a function's proof: the names of goals and of tests, which have the code's own numbers in them.
 ANSWERS = r"proofs/.+/(?:Answers|Invariants)\.antt"
-NAMED = re.compile(r"\b(returns|ensures|bounds|overflow\w*|loop|if|decreases|invariant)(?:-\w+)+")
+NAMED = re.compile(r"\b(returns|ensures|bounds|shape_of|overflow\w*|loop|if|decreases|invariant)(?:-\w+)+")
 
 
 def labelled(root):
