@@ -62,7 +62,7 @@ def in_code(text):
         kinds.update(re.findall(r"^ {4}(\w+)\b", body, re.M))
     owner, functions = "", []
     for line in code.splitlines():
-        owner = (re.findall(r"^impl (\w+)", line) or [""])[0] if line[:1].strip() else owner
+        owner = (re.findall(r"^impl (?:.* for )?(\w+)", line) or [""])[0] if line[:1].strip() else owner
         functions += [(name, owner) for name in re.findall(r"\b(?:fn|const) (\w+)", line)]
     return kinds, functions
 

@@ -541,8 +541,8 @@ def architecture(folder):
     for label, old, new, words in (
         ("a definition that the crate lacks", "`lowest_named`; `alike`", "`lowest_named`, `contribution`; `alike`", "contribution (main definitions of names)"),
         ("a theorem that is none", "`name-symmetric`, `name-transitive`", "`name-symmetric`, `same_name`", "same_name (main theorems of names)"),
-        ("a function of another crate", "`same_bytes`, `equal`,", "`same_bytes`, `equal`, `first_bad`,", "first_bad (main functions of names)"),
-        ("a crate for a function", "`same_bytes`, `equal`,", "`filter`, `equal`,", "filter (main functions of names)"),
+        ("a function of another crate", "`equal`, `search`,", "`equal`, `search`, `first_bad`,", "first_bad (main functions of names)"),
+        ("a crate for a function", "`equal`, `search`,", "`filter`, `search`,", "filter (main functions of names)"),
         ("a file that is not there", "in `likeness.rt`", "in `likenes.rt`", "likenes.rt (main functions of names)"),
         ("a tool that is not there", "`tools/library` builds", "`tools/libraries` builds", "tools/libraries (main functions of capi_c)"),
     ):

@@ -5,15 +5,15 @@ use Prim.Native.Nat.{ℕ}
 use lib.ListN.{get_or}
 use Rattle.reading.specs.Got.{got}
 use Rattle.reading.specs.Items.{spots}
-use Rattle.jobfile.specs.declared.Verdict.TheVariants as Verdict
+use Rattle.std.specs.Prelude.{Ok}
 use Rattle.jobfile.specs.declared.ReadChoice.{ReadChoice}
 use Rattle.jobfile.specs.Job.{Job, wish_count, order, prices}
-use Rattle.jobfile.specs.Meaning.{choice_read, Few, ChoiceBounds}
+use Rattle.jobfile.specs.Meaning.{as_choice, choice_read, Few, ChoiceBounds}
 use Rattle.jobfile.specs.Read.{read, read_job, choices}
 use Rattle.jobfile.proofs.NamingLaws.{map_got, job_by, read_same}
 use Rattle.network.specs.Network.{network_of}
 use Rattle.arguments.specs.Meaning.{network_in}
-use Rattle.arguments.proofs.FileLaws.{as-taken, choice-verdict}
+use Rattle.arguments.proofs.FileLaws.{as-taken}
 use Rattle.arguments.proofs.TestLaws.{network-same, price-same}
 
 -- what was read of a choice file states a job: its network, its count of wishes, its order and its prices
@@ -26,10 +26,10 @@ pub record ChoiceRead (f : List ℕ) (r : ReadChoice) : Type 0 where
   pub wanted : r.order ≡ order job
   pub priced : (i : ℕ) → get_or r.prices i 0 ≡ get_or (prices job) i 0
 
-pub choice-read : (f : List ℕ) (r : ReadChoice) → r ≡ choice_read (read spots choices f) → ChoiceBounds f r → r.verdict ≡ Verdict.Accepted → ChoiceRead f r
-choice-read f r e bounds accepted =
-    let t = as-taken (read spots choices f) (sym (ap (λ x. x.verdict) e ∙ choice-verdict (read spots choices f)) ∙ accepted) in
-    let q : r ≡ choice_read (got t.job t.end) = e ∙ ap choice_read t.is in
+pub choice-read : (f : List ℕ) (r : ReadChoice) → Ok r ≡ choice_read (read spots choices f) → ChoiceBounds f r → ChoiceRead f r
+choice-read f r e bounds =
+    let t = as-taken as_choice (read spots choices f) (sym e) in
+    let q : r ≡ as_choice t.job = t.told in
     record {
       job = job_by f t.job;
       end = t.end;

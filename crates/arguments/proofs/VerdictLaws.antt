@@ -2,7 +2,8 @@
 use mathlib.Core.Path.{◌≡◌, refl, sym, ap, ◌∙◌}
 use mathlib.Core.Bool.{Bool, true, false, not, ◌||◌}
 use mathlib.Core.List.{List, []}
-use mathlib.Core.Option.{Option, none, some}
+use Rattle.std.specs.Prelude.{Option}
+use Rattle.std.proofs.Math.Option as maybe
 use Prim.Native.Nat.{ℕ, ◌≤◌, ◌<◌}
 use native.Mathlib.Decide.{dec_lt}
 use native.Mathlib.Omega.{arith}
@@ -12,13 +13,12 @@ use borrow.Author.Tests.{not-true, not-false, lt-ltb, le-ltb, lt-leb, le-leb}
 use Rattle.reading.specs.declared.Reason.{Reason}
 use Rattle.reading.specs.declared.Refusal.{Refusal}
 use Rattle.jobfile.specs.declared.ReadChoice.{ReadChoice}
-use Rattle.network.specs.declared.lent.Lent.{Lent}
+use Rattle.sets.specs.Handed.{handed_by, handed_of}
 use Rattle.network.specs.Network.{listed}
 use Rattle.network.specs.Groups.{first_misplaced}
 use Rattle.filter.specs.Filter.{first_bad}
 use Rattle.network.specs.Meaning.{lent_by}
 use Rattle.network.proofs.ListedLaws.{misplaced-listed}
-use Rattle.filter.specs.declared.goals.Goals.{Goals}
 use Rattle.filter.specs.Meaning.{goals_by}
 use Rattle.arguments.specs.Meaning.{network_in}
 
@@ -44,28 +44,16 @@ module _ (k lowest highest : ℕ) where
 
 -- ---- the place that the code's test names, or none
 
-abbrev misplaced_by : Lent → Option ℕ
-misplaced_by Lent.Right = none
-misplaced_by (Lent.Misplaced u) = some u
+back : {A : Type 0} (o : maybe.Option A) → o ≡ handed_of (handed_by o)
+back maybe.none = refl
+back (maybe.some x) = refl
 
 -- the code tests a partition on the clashes alone
-pub misplaced-told : (job : ReadChoice) (groups : List ℕ) {a b : Lent} → a ≡ lent_by (first_misplaced (listed job.articles [] job.clashes) (λ u. get_or groups u 0)) → a ≡ b
-    → first_misplaced (network_in job) (λ u. get_or groups u 0) ≡ misplaced_by b
+pub misplaced-told : (job : ReadChoice) (groups : List ℕ) {a b : Option ℕ} → a ≡ lent_by (first_misplaced (listed job.articles [] job.clashes) (λ u. get_or groups u 0)) → a ≡ b
+    → first_misplaced (network_in job) (λ u. get_or groups u 0) ≡ handed_of b
 misplaced-told job groups h k =
     let group : ℕ → ℕ = λ u. get_or groups u 0 in
-    misplaced-listed job.articles job.wishes [] job.clashes group ∙ back (first_misplaced (listed job.articles [] job.clashes) group) ∙ ap misplaced_by (sym h ∙ k)
-  where
-    back : (o : Option ℕ) → o ≡ misplaced_by (lent_by o)
-    back none = refl
-    back (some u) = refl
+    misplaced-listed job.articles job.wishes [] job.clashes group ∙ back (first_misplaced (listed job.articles [] job.clashes) group) ∙ ap handed_of (sym h ∙ k)
 
-abbrev bad_by : Goals → Option ℕ
-bad_by Goals.Right = none
-bad_by (Goals.Bad i) = some i
-
-pub bad-told : (order : ℕ) (goals : List ℕ) {a b : Goals} → a ≡ goals_by (first_bad order goals) → a ≡ b → first_bad order goals ≡ bad_by b
-bad-told order goals h k = back (first_bad order goals) ∙ ap bad_by (sym h ∙ k)
-  where
-    back : (o : Option ℕ) → o ≡ bad_by (goals_by o)
-    back none = refl
-    back (some i) = refl
+pub bad-told : (order : ℕ) (goals : List ℕ) {a b : Option ℕ} → a ≡ goals_by (first_bad order goals) → a ≡ b → first_bad order goals ≡ handed_of b
+bad-told order goals h k = back (first_bad order goals) ∙ ap handed_of (sym h ∙ k)

@@ -1,6 +1,6 @@
 -- What a call answers: a refusal with reason and place, or a value (docs/RULES.md, "Reasons to turn a call down"). The file is tested first,
 -- then the arguments in the order of the reasons' numbers (saving tests the new file between 9 and 10); the first fault ends the call.
-use Rattle.std.specs.Prelude.{Bool, true, false, List, ◌++◌, ℕ, length, drop}
+use Rattle.std.specs.Prelude.{Bool, true, false, List, ◌++◌, ℕ, length, drop, Result, Ok, Err}
 use Rattle.std.proofs.Math.Option.{Option, none, some}
 use Rattle.reading.specs.declared.Reason.{Reason}
 use Rattle.reading.specs.declared.Refusal.{Refusal}
@@ -58,6 +58,11 @@ said (value x) = answered x
 -- what a refusal of the code says
 abbrev pub refusal_said : {A : Type 0} → Refusal → Said A
 refusal_said r = refused_by (number_of r.reason) r.place
+
+-- what a result of the code says, by what its value means
+abbrev pub result_said : {A B : Type 0} → (A → B) → Result A Refusal → Said B
+result_said meant (Err r) = refusal_said r
+result_said meant (Ok x) = answered (meant x)
 
 -- input is accepted if the call has a value or one of the answers 14 to 16
 abbrev pub accepted : {A : Type 0} → Said A → Bool

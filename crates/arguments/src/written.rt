@@ -15,11 +15,8 @@ pub fn facts(words: &mut [u32], mutex: &[u64; 64])
     requires { (32 ≤ length words.old) × ((i : ℕ) → i < 32 → get_or mutex.now i 0 < 2 ^ 32) }
     ensures { words.new ≡ paste words.old 0 mutex.now 32 }
 {
-    let made: &[u64] = mutex;
-    let mut i: usize = 0;
-    while i < FACT_WORDS {
-        words[i] = made[i] as u32;
-        i += 1;
+    for i in 0..FACT_WORDS {
+        words[i] = mutex[i] as u32;
     }
 }
 

@@ -15,10 +15,10 @@ use Rattle.reading.specs.declared.Reason.TheVariants.{NoPlan}
 use Rattle.reading.specs.declared.Refusal.{Refusal}
 use Rattle.reading.specs.Got.{Got}
 use Rattle.reading.specs.Items.{spots}
-use Rattle.jobfile.specs.declared.Verdict.{Verdict}
+use Rattle.std.specs.Prelude.{Result, Ok, Err}
 use Rattle.jobfile.specs.declared.ReadFitting.{ReadFitting}
 use Rattle.jobfile.specs.Job.{Job}
-use Rattle.jobfile.specs.Meaning.{padded, fitting_read}
+use Rattle.jobfile.specs.Meaning.{padded, as_fitting, fitting_read}
 use Rattle.jobfile.specs.Read.{read, read_job, fittings}
 use Rattle.jobfile.proofs.ReadLaws.{padded-at}
 use Rattle.planning.specs.Rounds.{Fitting, fitting_of, fewest}
@@ -29,7 +29,8 @@ use Rattle.planning.proofs.LayerLaws.{facts_below}
 use Rattle.planning.specs.Meaning.{fitting_in}
 use Rattle.layers.specs.Meaning.{layer, roomy}
 use Rattle.layers.proofs.LayerCode.{facts-length, rounds-length}
-use Rattle.planner.specs.declared.Planned.{Planned}
+use Rattle.std.specs.Prelude as Prelude
+use Rattle.std.specs.Prelude.{Some, None}
 use Rattle.planner.specs.Meaning.{planned_by}
 use Rattle.planner.specs.Planner.{Words}
 use Rattle.arguments.specs.Answers.{Answer, refusal, value, on_job, after_tests, found_or, Said, answered, said, refusal_said, Left, leaving}
@@ -39,7 +40,7 @@ use Rattle.arguments.proofs.TestLaws.{test-refused, through}
 use Rattle.calls.specs.Layers.{fact_layer_of, round_layer_of}
 use Rattle.calls.specs.Plan.{plan_in, plan_of, WordsIn, Buffer}
 use Rattle.calls.proofs.ToldLaws.{values, number, number-said}
-use Rattle.arguments.proofs.FileLaws.{fitting-verdict, file-down, job-down, on-job}
+use Rattle.arguments.proofs.FileLaws.{file-down, job-down, on-job}
 use Rattle.calls.proofs.CallLaws.{FittingRead}
 
 -- ---- the layers
@@ -84,18 +85,18 @@ module _ (draw : Fitting → Layer) (lowest size : ℕ) (f old : List ℕ) (k : 
   abbrev on_file : Answer Layer
   on_file = on_job (read_job fittings f) (λ job. layer_of (fitting_of job))
 
-  pub layer-down : {v : Verdict} {x : Refusal} → v ≡ (fitting_read (read spots fittings f)).verdict → v ≡ Verdict.Refused x → record { answer = refusal_said x; buffer = old } ≡ left on_file
-  layer-down p q = ap left (job-down (λ job. layer_of (fitting_of job)) (file-down f fittings (p ∙ fitting-verdict (read spots fittings f)) q))
+  pub layer-down : {v : Result ReadFitting Refusal} {x : Refusal} → v ≡ fitting_read (read spots fittings f) → v ≡ Err x → record { answer = refusal_said x; buffer = old } ≡ left on_file
+  layer-down p q = ap left (job-down (λ job. layer_of (fitting_of job)) (file-down as_fitting f fittings p q))
 
-  module _ (r : ReadFitting) (R : FittingRead f r) {v : Verdict} (e : v ≡ verdict_of (layer_test k lowest r.horizon (length old) size)) where
+  module _ (r : ReadFitting) (R : FittingRead f r) {v : Result (Unit {0}) Refusal} (e : v ≡ verdict_of (layer_test k lowest r.horizon (length old) size)) where
     from-file : layer_of (fitting_in r) ≡ on_file
     from-file = ap layer_of R.fitting ∙ on-job (λ job. layer_of (fitting_of job)) R.is
 
-    pub layer-stopped : {x : Refusal} → v ≡ Verdict.Refused x → record { answer = refusal_said x; buffer = old } ≡ left on_file
+    pub layer-stopped : {x : Refusal} → v ≡ Err x → record { answer = refusal_said x; buffer = old } ≡ left on_file
     layer-stopped q = ap left (test-refused (layer_test k lowest r.horizon (length old) size) (value (draw (fitting_in r))) e q ∙ from-file)
 
     -- the words of the layer were copied to the front, and x was handed on
-    layer-made : (ws : List ℕ) {x : ℕ} {new : List ℕ} → v ≡ Verdict.Accepted → take size ws ≡ (draw (fitting_in r)).words → length (draw (fitting_in r)).words ≡ size → new ≡ paste old 0 ws size
+    layer-made : (ws : List ℕ) {x : ℕ} {new : List ℕ} → v ≡ Ok tt → take size ws ≡ (draw (fitting_in r)).words → length (draw (fitting_in r)).words ≡ size → new ≡ paste old 0 ws size
         → x ≡ (draw (fitting_in r)).members → record { answer = answered x; buffer = new } ≡ left on_file
     layer-made ws q words many wrote told =
         let same = wrote ∙ ap₂ (λ (ws : List ℕ) (n : ℕ). ws ++ drop n old) words (zero-add size ∙ sym many) in
@@ -104,7 +105,7 @@ module _ (draw : Fitting → Layer) (lowest size : ℕ) (f old : List ℕ) (k : 
 
 module _ (f old : List ℕ) (k : ℕ) (r : ReadFitting) (R : FittingRead f r) where
   -- layer j was made, and x handed on
-  pub facts-made : {v : Verdict} {x j m : ℕ} {ws new : List ℕ} → v ≡ verdict_of (layer_test k 0 r.horizon (length old) 32) → v ≡ Verdict.Accepted → layer m ws ≡ roomy 64 (fact_layer 32 (fitting_in r) j) → new ≡ paste old 0 ws 32
+  pub facts-made : {v : Result (Unit {0}) Refusal} {x j m : ℕ} {ws new : List ℕ} → v ≡ verdict_of (layer_test k 0 r.horizon (length old) 32) → v ≡ Ok tt → layer m ws ≡ roomy 64 (fact_layer 32 (fitting_in r) j) → new ≡ paste old 0 ws 32
       → j ≡ k → x ≡ m → record { answer = answered x; buffer = new } ≡ fact_layer_of f k old
   facts-made {m = m} {ws = ws} e q drawn wrote asked told =
       let L = fact_layer 32 (fitting_in r) k in
@@ -116,7 +117,7 @@ module _ (f old : List ℕ) (k : ℕ) (r : ReadFitting) (R : FittingRead f r) wh
   abbrev round_after : ℕ → Layer
   round_after i = round_over 32 (vertices 32 (fitting_in r)) (32 + r.steps) (fact_layer 32 (fitting_in r) i)
 
-  pub vertices-made : {v : Verdict} {x j m : ℕ} {ws new : List ℕ} → v ≡ verdict_of (layer_test k 1 r.horizon (length old) 64) → v ≡ Verdict.Accepted → layer m ws ≡ round_after j → new ≡ paste old 0 ws 64
+  pub vertices-made : {v : Result (Unit {0}) Refusal} {x j m : ℕ} {ws new : List ℕ} → v ≡ verdict_of (layer_test k 1 r.horizon (length old) 64) → v ≡ Ok tt → layer m ws ≡ round_after j → new ≡ paste old 0 ws 64
       → j ≡ k - 1 → x ≡ m → record { answer = answered x; buffer = new } ≡ round_layer_of f k old
   vertices-made {m = m} {ws = ws} e q drawn wrote asked told =
       let L = round_layer 32 (fitting_in r) k in
@@ -134,11 +135,11 @@ module _ (f old new : List ℕ) where
   abbrev by : Said ℕ → Got (Job (List ℕ)) → Type 0
   by s g = (s ≡ said (on_job g (λ job. plan_in job old))) × Buffer g old new (on_job g (λ job. plan_in job old))
 
-  pub plan-down : {v : Verdict} {x : Refusal} → v ≡ (fitting_read (read spots fittings f)).verdict → v ≡ Verdict.Refused x → new ≡ old → Promised (refusal_said x)
-  plan-down {x = x} p q same = subst (by (refusal_said x)) (sym (file-down f fittings (p ∙ fitting-verdict (read spots fittings f)) q)) (refl, same)
+  pub plan-down : {v : Result ReadFitting Refusal} {x : Refusal} → v ≡ fitting_read (read spots fittings f) → v ≡ Err x → new ≡ old → Promised (refusal_said x)
+  plan-down {x = x} p q same = subst (by (refusal_said x)) (sym (file-down as_fitting f fittings p q)) (refl, same)
 
   -- `size` words were demanded
-  module _ (r : ReadFitting) (R : FittingRead f r) {v : Verdict} {size : ℕ} (room : v ≡ verdict_of (room_test (length old) size)) (as_read : size ≡ r.horizon) where
+  module _ (r : ReadFitting) (R : FittingRead f r) {v : Result (Unit {0}) Refusal} {size : ℕ} (room : v ≡ verdict_of (room_test (length old) size)) (as_read : size ≡ r.horizon) where
     e : v ≡ verdict_of (room_test (length old) r.horizon)
     e = room ∙ ap (λ (n : ℕ). verdict_of (room_test (length old) n)) as_read
 
@@ -156,26 +157,26 @@ module _ (f old new : List ℕ) where
     with-words : {a : Answer ℕ} → a ≡ plan_over (fitting_in r) → WordsIn (fitting_in r) old new a → Over a (fitting_in r)
     with-words k w = (k, subst (WordsIn (fitting_in r) old new) k w)
 
-    pub plan-short : {x : Refusal} → v ≡ Verdict.Refused x → new ≡ old → Promised (refusal_said x)
+    pub plan-short : {x : Refusal} → v ≡ Err x → new ≡ old → Promised (refusal_said x)
     plan-short q same = on-file (with-words (test-refused (room_test (length old) r.horizon) (found_or (fewest (fitting_in r) r.horizon) NoPlan) e q) same)
 
-    module _ (ok : v ≡ Verdict.Accepted) {m : Planned} (p : m ≡ planned_by (fewest (fitting_in r) r.horizon)) (words : Words (fitting_in r) old new m) where
+    module _ (ok : v ≡ Ok tt) {m : Prelude.Option ℕ} (p : m ≡ planned_by (fewest (fitting_in r) r.horizon)) (words : Words (fitting_in r) old new m) where
       tested : {a : Answer ℕ} → a ≡ found_or (fewest (fitting_in r) r.horizon) NoPlan → WordsIn (fitting_in r) old new a → Promised (said a)
       tested k w = on-file (with-words (k ∙ through (room_test (length old) r.horizon) (found_or (fewest (fitting_in r) r.horizon) NoPlan) e ok) w)
 
-      rounds-made : {k : ℕ} → m ≡ Planned.Rounds k → Promised (answered k)
+      rounds-made : {k : ℕ} → m ≡ Some k → Promised (answered k)
       rounds-made {k} q = tested (go (fewest (fitting_in r) r.horizon) (sym p ∙ q)) (subst (Words (fitting_in r) old new) q words)
         where
-          go : (o : Option ℕ) → planned_by o ≡ Planned.Rounds k → value k ≡ found_or o NoPlan
+          go : (o : Option ℕ) → planned_by o ≡ Some k → value k ≡ found_or o NoPlan
           go (some j) h = let s : j ≡ k = cc in sym (ap (λ (i : ℕ). value i) s)
           go none h = let z : ◌≡◌ {A = ℕ} 0 1 = cc in absurd (omega arith)
 
-      pub plan-made : {t : Said ℕ} {k : ℕ} → m ≡ Planned.Rounds k → values t ≡ 1 → number t ≡ k → Promised t
+      pub plan-made : {t : Said ℕ} {k : ℕ} → m ≡ Some k → values t ≡ 1 → number t ≡ k → Promised t
       plan-made {t} q one told = subst Promised (sym (number-said t one told)) (rounds-made q)
 
-      pub plan-none : m ≡ Planned.Nothing → Promised (said (refusal NoPlan 0))
+      pub plan-none : m ≡ None → Promised (said (refusal NoPlan 0))
       plan-none q = tested (go (fewest (fitting_in r) r.horizon) (sym p ∙ q)) (subst (Words (fitting_in r) old new) q words)
         where
-          go : (o : Option ℕ) → planned_by o ≡ Planned.Nothing → refusal NoPlan 0 ≡ found_or o NoPlan
+          go : (o : Option ℕ) → planned_by o ≡ None → refusal NoPlan 0 ≡ found_or o NoPlan
           go (some j) h = let z : ◌≡◌ {A = ℕ} 0 1 = cc in absurd (omega arith)
           go none h = refl

@@ -5,4 +5,3 @@ pub mod ChoiceLaws
 pub mod OfferLaws
 pub mod FittingLaws
 pub mod NameLaws
-pub mod SaveLaws

@@ -15,12 +15,12 @@ use Rattle.reading.specs.declared.Refusal.{Refusal}
 use Rattle.reading.specs.declared.Spot.{Spot}
 use Rattle.reading.specs.Got.{Got, got}
 use Rattle.reading.specs.Items.{spots}
-use Rattle.jobfile.specs.declared.Verdict.{Verdict}
+use Rattle.std.specs.Prelude.{Result, Ok, Err}
 use Rattle.jobfile.specs.declared.ReadChoice.{ReadChoice}
 use Rattle.jobfile.specs.declared.ReadNames.{ReadNames}
 use Rattle.jobfile.specs.Job.{Job, column, size, wishes, clashes}
 use Rattle.jobfile.specs.Valid.{Bytes}
-use Rattle.jobfile.specs.Meaning.{choice_read, names_read, spot_of, spot_in, Few, NamesWithin, ChoiceBounds, NamesBounds}
+use Rattle.jobfile.specs.Meaning.{as_choice, as_names, choice_read, names_read, spot_in, Few, ChoiceBounds, NamesBounds}
 use Rattle.jobfile.specs.Read.{read, read_job, choices, either}
 use Rattle.jobfile.proofs.NamingLaws.{map_got, bytes_at, record_by, job_by, column-by, names_same, read_same}
 use Rattle.jobfile.proofs.ReadLaws.{names-spot}
@@ -32,7 +32,7 @@ use Rattle.names.proofs.SameLaws.{padded-same, search-cong}
 use Rattle.arguments.specs.Answers.{Answer, value, on_job, found_or, Said, answered, said, refusal_said}
 use Rattle.calls.specs.Find.{find_in, find_of}
 use Rattle.calls.specs.Compare.{compare_of}
-use Rattle.arguments.proofs.FileLaws.{Taken, choice-verdict, names-verdict, as-taken, file-down, choice-down-as, job-down, fault_in, place_in, taken_in}
+use Rattle.arguments.proofs.FileLaws.{Taken, as-taken, file-down, choice-down-as, job-down, fault_in, place_in, taken_in}
 use Rattle.calls.proofs.ToldLaws.{values, tested, test-said}
 
 -- ---- naming
@@ -44,26 +44,25 @@ spot-asked g e same = e ∙ ap (spot_in g) same
 -- ---- finding
 
 module _ (f name : List ℕ) where
-  pub find-down : {v : Verdict} {x : Refusal} → v ≡ (names_read (read spots either f)).verdict → v ≡ Verdict.Refused x → refusal_said x ≡ said (find_of f name)
-  find-down p q = ap said (job-down (λ job. find_in job name) (file-down f either (p ∙ names-verdict (read spots either f)) q))
+  pub find-down : {v : Result ReadNames Refusal} {x : Refusal} → v ≡ names_read (read spots either f) → v ≡ Err x → refusal_said x ≡ said (find_of f name)
+  find-down p q = ap said (job-down (λ job. find_in job name) (file-down as_names f either p q))
 
   -- the names that were read are short
-  pub find-short : Bytes f → {r : ReadNames} → r ≡ names_read (read spots either f) → NamesBounds f r → (i : ℕ) → get_or r.lens i 0 ≤ 32
-  find-short bytes e (few, within, counted) i =
-      rw e (lens-short either f bytes counted (subst (λ r. NamesWithin (length f) r.starts r.lens) e within) i)
+  pub find-short : Bytes f → {r : ReadNames} → Ok r ≡ names_read (read spots either f) → NamesBounds f r → (i : ℕ) → get_or r.lens i 0 ≤ 32
+  find-short bytes {r} e (few, within, counted) i = lens-short either f bytes {r = r} e counted within i
 
   -- the search was over n names, which are those of the job by their spots in the file
-  pub find-made : {s : Said ℕ} {o : Option ℕ} {n : ℕ} (r : ReadNames) → r ≡ names_read (read spots either f) → NamesBounds f r → r.verdict ≡ Verdict.Accepted
+  pub find-made : {s : Said ℕ} {o : Option ℕ} {n : ℕ} (r : ReadNames) → Ok r ≡ names_read (read spots either f) → NamesBounds f r
       → s ≡ said (found_or o NameNotFound) → o ≡ lowest_named name n (λ i. take (get_or r.lens i 0) (drop (get_or r.starts i 0) f)) → n ≡ r.count → s ≡ said (find_of f name)
-  find-made r e bounds accepted told p all =
+  find-made r e bounds told p all =
       let g = read spots either f in
-      let t = as-taken g (sym (ap (λ x. x.verdict) e ∙ names-verdict g) ∙ accepted) in
+      let t = as-taken as_names g (sym e) in
       told
       ∙ ap said (ap (λ (o : Option ℕ). found_or o NameNotFound) (
       p
-      ∙ ap (λ (k : ℕ). lowest_named name k (λ i. take (get_or r.lens i 0) (drop (get_or r.starts i 0) f))) (all ∙ ap (λ x. x.count) e ∙ ap (λ x. (names_read x).count) t.is)
+      ∙ ap (λ (k : ℕ). lowest_named name k (λ i. take (get_or r.lens i 0) (drop (get_or r.starts i 0) f))) (all ∙ ap (λ x. x.count) t.told)
       ∙ search-cong name (size t.job) _ (λ i. get_or (map (λ r. r.name) (map (record_by f) t.job.records)) i [])
-      (λ i. ap (bytes_at f) (ap (λ x. spot_of x.starts x.lens i) e ∙ names-spot g bounds.2 i ∙ ap (λ x. spot_in x i) t.is) ∙ sym (names_same f t.job.records i))
+      (λ i. ap (bytes_at f) (names-spot g e bounds.2 i ∙ ap (λ x. spot_in x i) t.is) ∙ sym (names_same f t.job.records i))
       )
       ∙ sym (ap (λ g. on_job g (λ job. find_in job name)) (read_same f either ∙ ap (map_got (job_by f)) t.is)))
 
@@ -76,10 +75,10 @@ alike-by f f' a b = rw (column-by f 0 a.records, column-by f 1 a.records, column
 abbrev by_arrays : ReadChoice → ReadChoice → Bool
 by_arrays a b = eqb a.articles b.articles && (eqb a.wish_count b.wish_count && (eqb a.order b.order && (same_list a.wishes b.wishes && same_list a.clashes b.clashes)))
 
-alike_is : (a b : Job Spot) (m n : ℕ) → Few 64 (got a m) → Few 64 (got b n) → by_arrays (choice_read (got a m)) (choice_read (got b n)) ≡ alike a b
+alike_is : (a b : Job Spot) (m n : ℕ) → Few 64 (got a m) → Few 64 (got b n) → by_arrays (as_choice a) (as_choice b) ≡ alike a b
 alike_is a b m n fa fb = go (eqb (size a) (size b)) refl
   where
-    go : (t : Bool) → eqb (size a) (size b) ≡ t → by_arrays (choice_read (got a m)) (choice_read (got b n)) ≡ alike a b
+    go : (t : Bool) → eqb (size a) (size b) ≡ t → by_arrays (as_choice a) (as_choice b) ≡ alike a b
     go true e =
         let same = eqb-true (size a) (size b) e in
         let lengths : (k : ℕ) → length (column k a.records) ≡ length (column k b.records) = λ k. column-length k a.records ∙ fa.0 ∙ same ∙ sym fb.0 ∙ sym (column-length k b.records) in
@@ -92,31 +91,31 @@ module _ (f s : List ℕ) where
   compared g h = on_job g (λ a. on_job h (λ b. value (alike a b)))
 
   -- g was read first, and its reading has the numbers of f
-  pub compare-first : (g : List ℕ) {v : Verdict} {x : Refusal} → v ≡ (choice_read (read spots choices g)).verdict → v ≡ Verdict.Refused x
+  pub compare-first : (g : List ℕ) {v : Result ReadChoice Refusal} {x : Refusal} → v ≡ choice_read (read spots choices g) → v ≡ Err x
       → fault_in (read spots choices g) ≡ fault_in (read spots choices f) → place_in (read spots choices g) ≡ place_in (read spots choices f) → taken_in (read spots choices g) ≡ taken_in (read spots choices f)
       → refusal_said x ≡ said (compare_of f s)
   compare-first g p q fault place t = ap said (job-down (λ a. on_job (read_job choices s) (λ b. value (alike a b))) (choice-down-as f g p q fault place t))
 
-  module _ (a : ReadChoice) (ea : a ≡ choice_read (read spots choices f)) (ba : ChoiceBounds f a) (va : a.verdict ≡ Verdict.Accepted) where
-    first : Taken (read spots choices f)
-    first = as-taken (read spots choices f) (sym (ap (λ x. x.verdict) ea ∙ choice-verdict (read spots choices f)) ∙ va)
+  module _ (a : ReadChoice) (ea : Ok a ≡ choice_read (read spots choices f)) (ba : ChoiceBounds f a) where
+    first : Taken as_choice (read spots choices f) a
+    first = as-taken as_choice (read spots choices f) (sym ea)
 
     is-first : read_job choices f ≡ got (job_by f first.job) first.end
     is-first = read_same f choices ∙ ap (map_got (job_by f)) first.is
 
-    pub compare-second : {v : Verdict} {x : Refusal} → v ≡ (choice_read (read spots choices s)).verdict → v ≡ Verdict.Refused x → refusal_said x ≡ said (compare_of f s)
-    compare-second p q = ap said (sym (ap₂ compared is-first (file-down s choices (p ∙ choice-verdict (read spots choices s)) q)))
+    pub compare-second : {v : Result ReadChoice Refusal} {x : Refusal} → v ≡ choice_read (read spots choices s) → v ≡ Err x → refusal_said x ≡ said (compare_of f s)
+    compare-second p q = ap said (sym (ap₂ compared is-first (file-down as_choice s choices p q)))
 
-    both_read : (b : ReadChoice) {r t : Bool} → b ≡ choice_read (read spots choices s) → ChoiceBounds s b → b.verdict ≡ Verdict.Accepted → r ≡ by_arrays a b → r ≡ t → answered t ≡ said (compare_of f s)
-    both_read b eb bb vb e k =
-        let second = as-taken (read spots choices s) (sym (ap (λ x. x.verdict) eb ∙ choice-verdict (read spots choices s)) ∙ vb) in
+    both_read : (b : ReadChoice) {r : Bool} → Ok b ≡ choice_read (read spots choices s) → ChoiceBounds s b → r ≡ by_arrays a b → answered r ≡ said (compare_of f s)
+    both_read b eb bb e =
+        let second = as-taken as_choice (read spots choices s) (sym eb) in
         ap (λ (x : Bool). answered x) (
-        sym k ∙ e ∙ ap₂ by_arrays (ea ∙ ap choice_read first.is) (eb ∙ ap choice_read second.is)
+        e ∙ ap₂ by_arrays first.told second.told
         ∙ alike_is first.job second.job first.end second.end (subst (Few 64) first.is ba.3) (subst (Few 64) second.is bb.3) ∙ sym (alike-by f s first.job second.job)
         )
         ∙ ap said (sym (ap₂ compared is-first (read_same s choices ∙ ap (map_got (job_by s)) second.is)))
 
     -- r is what the test of both said, and t what is told of it
-    pub compare-both : (b : ReadChoice) {r : Bool} (is : Bool) {t : Said Bool} → b ≡ choice_read (read spots choices s) → ChoiceBounds s b → b.verdict ≡ Verdict.Accepted → r ≡ by_arrays a b → r ≡ is
-        → values t ≡ 1 → tested t ≡ num is → t ≡ said (compare_of f s)
-    compare-both b is {t} eb bb vb e k v told = test-said t is v told ∙ both_read b eb bb vb e k
+    pub compare-both : (b : ReadChoice) {r : Bool} {t : Said Bool} → Ok b ≡ choice_read (read spots choices s) → ChoiceBounds s b → r ≡ by_arrays a b
+        → values t ≡ 1 → tested t ≡ num r → t ≡ said (compare_of f s)
+    compare-both b {r} {t} eb bb e v told = test-said t r v told ∙ both_read b eb bb e

@@ -14,22 +14,22 @@ use Rattle.sets.proofs.First.{first-miss}
 use Rattle.reading.specs.declared.Reason.TheVariants.{ShortBuffer, FalsePartition, BadGoal}
 use Rattle.reading.specs.declared.Refusal.{Refusal}
 use Rattle.reading.specs.Items.{spots}
-use Rattle.jobfile.specs.declared.Verdict.{Verdict}
+use Rattle.std.specs.Prelude.{Result, Err}
 use Rattle.jobfile.specs.declared.ReadChoice.{ReadChoice}
-use Rattle.jobfile.specs.Meaning.{choice_read}
+use Rattle.jobfile.specs.Meaning.{as_choice, choice_read}
 use Rattle.jobfile.specs.Read.{read, choices}
 use Rattle.network.specs.Network.{Network}
 use Rattle.network.specs.Groups.{groups_to, group_of}
 use Rattle.filter.specs.Filter.{bad_goal, first_bad}
 use Rattle.network.proofs.GroupLaws.{groups-length, groups-right, right-lent}
-use Rattle.choice.specs.declared.Choice.{Choice}
+use Rattle.choice.specs.Meaning.{Choice}
 use Rattle.choice.specs.Choice.{sole_goal, offered}
 use Rattle.arguments.specs.Answers.{Answer, unless, unless_at, after_tests, passed, said, refusal_said}
 use Rattle.arguments.specs.Tests.{groups_test, goals_test}
 use Rattle.arguments.specs.Meaning.{network_in}
 use Rattle.calls.specs.Choose.{Chosen, chosen_for, searched}
 use Rattle.calls.specs.Offer.{offer_in, offer_of}
-use Rattle.arguments.proofs.FileLaws.{choice-verdict, file-down, job-down, on-job}
+use Rattle.arguments.proofs.FileLaws.{file-down, job-down, on-job}
 use Rattle.arguments.proofs.JobLaws.{ChoiceRead}
 use Rattle.calls.proofs.ChoiceLaws.{searched-is}
 
@@ -75,8 +75,8 @@ offer-is N wanted = searched-is N (group_of N) (sole_goal wanted) wanted 0 ∙ o
 -- ---- a file
 
 module _ (f : List ℕ) where
-  pub offer-down : {v : Verdict} {x : Refusal} → v ≡ (choice_read (read spots choices f)).verdict → v ≡ Verdict.Refused x → refusal_said x ≡ said (offer_of f)
-  offer-down p q = ap said (job-down (λ job. offer_in job) (file-down f choices (p ∙ choice-verdict (read spots choices f)) q))
+  pub offer-down : {v : Result ReadChoice Refusal} {x : Refusal} → v ≡ choice_read (read spots choices f) → v ≡ Err x → refusal_said x ≡ said (offer_of f)
+  offer-down p q = ap said (job-down (λ job. offer_in job) (file-down as_choice f choices p q))
 
   -- the choice was made for this order
   pub offer-made : (r : ReadChoice) → ChoiceRead f r → {c : Choice} {wanted : ℕ} → c ≡ offered (network_in r) wanted → wanted ≡ r.order → said (searched c) ≡ said (offer_of f)

@@ -3,13 +3,16 @@ use mathlib.Core.Path.{◌≡◌, refl, ap, ap₂, sym, ◌∙◌}
 use mathlib.Core.Bool.{Bool}
 use Prim.Native.Nat.{ℕ}
 use native.Mathlib.Omega.{arith}
+use Rattle.std.specs.Prelude.{Option, Some}
 use Rattle.sets.specs.Ranges.{num}
 use Rattle.sets.proofs.Ranges.{num-same}
 use Rattle.reading.specs.declared.Reason.{Reason}
 use Rattle.arguments.specs.Answers.{found_or, Said, refused_by, answered, said}
-use Rattle.names.specs.declared.Holder.{Holder}
 use Rattle.names.specs.Meaning.{holder_of}
-use Rattle.choice.specs.declared.Choice.{Choice}
+use Rattle.std.specs.Prelude.{Ok, Err}
+use Rattle.choice.specs.Meaning.{Choice}
+use Rattle.choice.specs.declared.Chosen as choice
+use Rattle.choice.specs.declared.NoSelection.{NoSelection}
 use Rattle.calls.specs.Choose.{Chosen, searched}
 
 -- a number that is computed is looked at as any n that is equal to it, so that a comparison that fails names it
@@ -52,12 +55,12 @@ test-said (refused_by reason place) b v e = absurd (omega arith)
 test-said (answered a) b v e = ap (λ (x : Bool). answered x) (num-same a b e)
 
 -- what was found, and what the search chose
-pub found-said : (reason : Reason) {t : Said ℕ} {named : Holder} {i : ℕ} → named ≡ Holder.Number i → values t ≡ 1 → number t ≡ i → t ≡ said (found_or (holder_of named) reason)
+pub found-said : (reason : Reason) {t : Said ℕ} {named : Option ℕ} {i : ℕ} → named ≡ Some i → values t ≡ 1 → number t ≡ i → t ≡ said (found_or (holder_of named) reason)
 found-said reason {t} e v n = number-said t v n ∙ sym (ap (λ x. said (found_or (holder_of x) reason)) e)
 
-pub chosen-said : {t : Said Chosen} {chosen : Choice} {x aside : ℕ} → chosen ≡ Choice.Chosen x aside → values t ≡ 1 → selected t ≡ x → set_by t ≡ aside → t ≡ said (searched chosen)
+pub chosen-said : {t : Said Chosen} {chosen : Choice} {c : choice.Chosen} → chosen ≡ Ok c → values t ≡ 1 → selected t ≡ c.selection → set_by t ≡ c.aside → t ≡ said (searched chosen)
 chosen-said {t} e v n h = choice-is t v n h ∙ sym (ap (λ c. said (searched c)) e)
 
 -- or that it chose nothing, and which goal falls short
-pub none_said : {chosen : Choice} {place short : ℕ} → chosen ≡ Choice.Nothing short → place ≡ short → refused_by 14 place ≡ said (searched chosen)
+pub none_said : {chosen : Choice} {n : NoSelection} {place : ℕ} → chosen ≡ Err n → place ≡ n.place → refused_by 14 place ≡ said (searched chosen)
 none_said e h = ap (λ (p : ℕ). refused_by 14 p) h ∙ sym (ap (λ c. said (searched c)) e)

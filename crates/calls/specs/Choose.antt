@@ -1,17 +1,18 @@
 -- The choice on a file (docs/RULES.md, "Selection"): groups, projection goals and a floor are lent.
-use Rattle.std.specs.Prelude.{List, ℕ, get_or}
+use Rattle.std.specs.Prelude.{List, ℕ, get_or, Result, Ok, Err}
 use Rattle.std.proofs.Math.Option.{Option, none, some}
+use Rattle.reading.specs.declared.Refusal.{Refusal}
 use Rattle.reading.specs.declared.Reason.TheVariants.{NoSelection}
 use Rattle.jobfile.specs.Job.{Job, order}
 use Rattle.jobfile.specs.Read.{read_job, choices}
 use Rattle.network.specs.Network.{Network, network_of}
 use Rattle.sets.specs.Sets.{full}
 use Rattle.filter.specs.Filter.{set_aside, first_short}
-use Rattle.choice.specs.declared.Choice.{Choice}
+use Rattle.choice.specs.Meaning.{Choice}
+use Rattle.calls.specs.declared.Chosen as code
 use Rattle.choice.specs.Choice.{selection}
-use Rattle.arguments.specs.Answers.{Answer, refusal, value, on_job, after_tests, Said, answered, refusal_said}
+use Rattle.arguments.specs.Answers.{Answer, refusal, value, on_job, after_tests, Said, result_said}
 use Rattle.arguments.specs.Tests.{groups_test, goals_test}
-use Rattle.calls.specs.declared.ChoiceAnswer.{ChoiceAnswer}
 
 -- a selection, with what was set aside
 pub record Chosen : Type 0 where
@@ -41,10 +42,9 @@ choose_of file groups goals floor = on_job (read_job choices file) (λ job. choo
 
 -- what the search answers, in the words of the rules
 abbrev pub searched : Choice → Answer Chosen
-searched (Choice.Chosen x aside) = value (record { selection = x; aside = aside })
-searched (Choice.Nothing place) = refusal NoSelection place
+searched (Ok c) = value (record { selection = c.selection; aside = c.aside })
+searched (Err n) = refusal NoSelection n.place
 
 -- what the code's answer says
-abbrev pub choice_told : ChoiceAnswer → Said Chosen
-choice_told (ChoiceAnswer.Refused x) = refusal_said x
-choice_told (ChoiceAnswer.Chosen s aside) = answered (record { selection = s.bits; aside = aside.bits })
+abbrev pub choice_told : Result code.Chosen Refusal → Said Chosen
+choice_told = result_said (λ c. record { selection = c.selection.bits; aside = c.aside.bits })

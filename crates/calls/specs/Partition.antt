@@ -1,12 +1,12 @@
 -- Our own partition of a choice file (docs/RULES.md, "Sets, groups and filter"): a buffer for the groups is lent.
-use Rattle.std.specs.Prelude.{List, ℕ, length}
+use Rattle.std.specs.Prelude.{List, ℕ, length, Result}
+use Rattle.reading.specs.declared.Refusal.{Refusal}
 use Rattle.jobfile.specs.Job.{Job, size}
 use Rattle.jobfile.specs.Read.{read_job, choices}
 use Rattle.network.specs.Network.{network_of}
 use Rattle.network.specs.Groups.{groups_to}
-use Rattle.arguments.specs.Answers.{Answer, value, on_job, after_tests, Said, answered, refusal_said, Left, leaving}
+use Rattle.arguments.specs.Answers.{Answer, value, on_job, after_tests, Said, Left, leaving, result_said}
 use Rattle.arguments.specs.Tests.{room_test}
-use Rattle.calls.specs.declared.PartitionAnswer.{PartitionAnswer}
 
 -- on a job: 10 is tested; then the group of each article
 abbrev pub partition_in : {N : Type 0} → Job N → List ℕ → Answer (List ℕ)
@@ -17,6 +17,5 @@ abbrev pub partition_of : List ℕ → List ℕ → Left (Unit {0})
 partition_of file buffer = leaving (λ groups. groups) (λ groups. tt) buffer (on_job (read_job choices file) (λ job. partition_in job buffer))
 
 -- what the code's answer says
-abbrev pub partition_told : PartitionAnswer → Said (Unit {0})
-partition_told (PartitionAnswer.Refused x) = refusal_said x
-partition_told PartitionAnswer.Done = answered tt
+abbrev pub partition_told : Result (Unit {0}) Refusal → Said (Unit {0})
+partition_told = result_said (λ done. done)

@@ -1,12 +1,13 @@
 -- A pass of the filter on a choice file (docs/RULES.md, "Sets, groups and filter"): groups, a live set and one projection goal are lent.
-use Rattle.std.specs.Prelude.{List, ℕ, get_or}
+use Rattle.std.specs.Prelude.{List, ℕ, get_or, Result}
+use Rattle.reading.specs.declared.Refusal.{Refusal}
 use Rattle.jobfile.specs.Job.{Job, size, order}
 use Rattle.jobfile.specs.Read.{read_job, choices}
 use Rattle.network.specs.Network.{Network, network_of}
 use Rattle.filter.specs.Filter.{total, pass}
-use Rattle.arguments.specs.Answers.{Answer, value, on_job, after_tests, Said, answered, refusal_said}
+use Rattle.arguments.specs.Answers.{Answer, value, on_job, after_tests, Said, result_said}
+use Rattle.calls.specs.declared.Passed as code
 use Rattle.arguments.specs.Tests.{groups_test, pass_test}
-use Rattle.calls.specs.declared.PassAnswer.{PassAnswer}
 
 -- what a pass leaves live, and the sum of the contributions by which it was made
 pub record Passed : Type 0 where
@@ -29,6 +30,5 @@ abbrev pub pass_of : List ℕ → List ℕ → ℕ → ℕ → Answer Passed
 pass_of file groups live goal = on_job (read_job choices file) (λ job. pass_in job groups live goal)
 
 -- what the code's answer says
-abbrev pub pass_told : PassAnswer → Said Passed
-pass_told (PassAnswer.Refused x) = refusal_said x
-pass_told (PassAnswer.Passed s sum) = answered (record { live = s.bits; sum = sum })
+abbrev pub pass_told : Result code.Passed Refusal → Said Passed
+pass_told = result_said (λ p. record { live = p.live.bits; sum = p.sum })

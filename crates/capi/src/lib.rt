@@ -3,7 +3,7 @@
 // for an answer and the reason's number for a refusal, and always writes all words of `out`.
 #![tactic(auto)]
 
-ghost use Rattle.std.specs.Prelude.{◌≡◌, [], ◌∷◌};
+ghost use Rattle.std.specs.Prelude.{◌≡◌, ◌∷◌, ◌-◌, ◌<◌, replicate};
 ghost use Rattle.reading.specs.Items.{spots};
 ghost use Rattle.reading.specs.Reasons.{number_of};
 ghost use Rattle.jobfile.specs.Read.{read, read_job, fittings, either};
@@ -23,50 +23,29 @@ ghost use Rattle.fair.specs.Fair.{fair_of};
 ghost use Rattle.capi.specs.Returned.{returned, returned_three, nothing, alone, passed_words, both, bill_words, test, spotted};
 ghost use Rattle.capi.specs.Version.{interface_number};
 
-use bill::PriceAnswer;
-use calls::{
-    ChoiceAnswer, CompareAnswer, FactsAnswer, FindAnswer, PartitionAnswer, PassAnswer, PlanAnswer,
-    SaveAnswer, VerticesAnswer,
-};
-use fair::FairAnswer;
 use reading::Refusal;
 use sets::ArticleSet;
 
 // The number of this interface, which goes up whenever it changes: KITCHEN_VERSION of the header.
 const VERSION: u32 = 7;
 
-// An answer: two words, and the status 0.
-fn answered(out: &mut [u64; 2], a: u64, b: u64) -> u32
-    ensures { (result ≡ 0) × (out.new ≡ a ∷ b ∷ []) }
+// An answer: its words, and the status 0.
+fn answered<const N: usize>(out: &mut [u64; N], words: [u64; N]) -> u32
+    ensures { (result ≡ 0) × (out.new ≡ words.entry) }
 {
-    *out = [a, b];
+    *out = words;
     0
 }
 
-// A refusal: its place, and its number as the status.
-fn refused(out: &mut [u64; 2], refusal: Refusal) -> u32
-    ensures { (result ≡ number_of refusal.reason) × (out.new ≡ refusal.place ∷ 0 ∷ []) }
+// A refusal: its place, with zeros after it, and its number as the status.
+fn refused<const N: usize>(out: &mut [u64; N], refusal: Refusal) -> u32
+    requires { 0 < N }
+    ensures { (result ≡ number_of refusal.reason) × (out.new ≡ refusal.place ∷ replicate (N - 1) 0) }
 {
-    *out = [refusal.place as u64, 0];
-    let reason = refusal.reason;
-    reading::number(reason)
-}
-
-// An answer of three words.
-fn priced(out: &mut [u64; 3], a: u64, b: u64, c: u64) -> u32
-    ensures { (result ≡ 0) × (out.new ≡ a ∷ b ∷ c ∷ []) }
-{
-    *out = [a, b, c];
-    0
-}
-
-// A refusal with three words.
-fn unpriced(out: &mut [u64; 3], refusal: Refusal) -> u32
-    ensures { (result ≡ number_of refusal.reason) × (out.new ≡ refusal.place ∷ 0 ∷ 0 ∷ []) }
-{
-    *out = [refusal.place as u64, 0, 0];
-    let reason = refusal.reason;
-    reading::number(reason)
+    let mut words = [0; N];
+    words[0] = refusal.place as u64;
+    *out = words;
+    u32::from(refusal.reason)
 }
 
 // ---- choice files
@@ -77,8 +56,8 @@ pub fn kitchen_partition(file: &[u8], groups: &mut [u8], out: &mut [u64; 2]) -> 
 {
     let answer = calls::partition(file, groups);
     match answer {
-        PartitionAnswer::Done => answered(out, 0, 0),
-        PartitionAnswer::Refused(refusal) => refused(out, refusal),
+        Ok(()) => answered(out, [0, 0]),
+        Err(refusal) => refused(out, refusal),
     }
 }
 
@@ -87,8 +66,8 @@ pub fn kitchen_pass(file: &[u8], groups: &[u8], live: u64, goal: u64, out: &mut 
 {
     let answer = calls::pass(file, groups, ArticleSet { bits: live }, goal);
     match answer {
-        PassAnswer::Passed { live, sum } => answered(out, live.bits, sum),
-        PassAnswer::Refused(refusal) => refused(out, refusal),
+        Ok(passed) => answered(out, [passed.live.bits, passed.sum]),
+        Err(refusal) => refused(out, refusal),
     }
 }
 
@@ -103,8 +82,8 @@ pub fn kitchen_choose(
 {
     let answer = calls::choose(file, groups, goals, floor);
     match answer {
-        ChoiceAnswer::Chosen { selection, aside } => answered(out, selection.bits, aside.bits),
-        ChoiceAnswer::Refused(refusal) => refused(out, refusal),
+        Ok(chosen) => answered(out, [chosen.selection.bits, chosen.aside.bits]),
+        Err(refusal) => refused(out, refusal),
     }
 }
 
@@ -114,12 +93,8 @@ pub fn kitchen_price(file: &[u8], rate: u64, out: &mut [u64; 3]) -> u32
 {
     let answer = bill::price(file, rate);
     match answer {
-        PriceAnswer::Priced {
-            selection,
-            total,
-            tax,
-        } => priced(out, selection.bits, total, tax),
-        PriceAnswer::Refused(refusal) => unpriced(out, refusal),
+        Ok(bill) => answered(out, [bill.selection.bits, bill.total, bill.tax]),
+        Err(refusal) => refused(out, refusal),
     }
 }
 
@@ -130,8 +105,8 @@ pub fn kitchen_fair(file: &[u8], orders: &[u64], words: &mut [u64], out: &mut [u
 {
     let answer = fair::fair(file, orders, words);
     match answer {
-        FairAnswer::Done => answered(out, 0, 0),
-        FairAnswer::Refused(refusal) => refused(out, refusal),
+        Ok(()) => answered(out, [0, 0]),
+        Err(refusal) => refused(out, refusal),
     }
 }
 
@@ -143,8 +118,8 @@ pub fn kitchen_fact_layer(file: &[u8], layer: u64, mutexes: &mut [u32], out: &mu
 {
     let answer = calls::fact_layer(file, layer as usize, mutexes);
     match answer {
-        FactsAnswer::Facts(s) => answered(out, s as u64, 0),
-        FactsAnswer::Refused(refusal) => refused(out, refusal),
+        Ok(facts) => answered(out, [facts as u64, 0]),
+        Err(refusal) => refused(out, refusal),
     }
 }
 
@@ -154,8 +129,8 @@ pub fn kitchen_round_layer(file: &[u8], layer: u64, mutexes: &mut [u64], out: &m
 {
     let answer = calls::round_layer(file, layer as usize, mutexes);
     match answer {
-        VerticesAnswer::Vertices(s) => answered(out, s, 0),
-        VerticesAnswer::Refused(refusal) => refused(out, refusal),
+        Ok(vertices) => answered(out, [vertices, 0]),
+        Err(refusal) => refused(out, refusal),
     }
 }
 
@@ -165,8 +140,8 @@ pub fn kitchen_plan(file: &[u8], rounds: &mut [u32], out: &mut [u64; 2]) -> u32
 {
     let answer = calls::plan(file, rounds);
     match answer {
-        PlanAnswer::Rounds(k) => answered(out, k as u64, 0),
-        PlanAnswer::Refused(refusal) => refused(out, refusal),
+        Ok(count) => answered(out, [count as u64, 0]),
+        Err(refusal) => refused(out, refusal),
     }
 }
 
@@ -177,7 +152,7 @@ pub fn kitchen_name(file: &[u8], number: u64, out: &mut [u64; 2]) -> u32
     ensures { record { status = result; words = out.new } ≡ spotted (spot_in (read spots either file.now) number) }
 {
     let spot = jobfile::spot(file, number as usize);
-    answered(out, spot.start as u64, spot.len as u64)
+    answered(out, [spot.start as u64, spot.len as u64])
 }
 
 pub fn kitchen_find(file: &[u8], name: &[u8], out: &mut [u64; 2]) -> u32
@@ -185,8 +160,8 @@ pub fn kitchen_find(file: &[u8], name: &[u8], out: &mut [u64; 2]) -> u32
 {
     let answer = calls::find(file, name);
     match answer {
-        FindAnswer::Number(i) => answered(out, i as u64, 0),
-        FindAnswer::Refused(refusal) => refused(out, refusal),
+        Ok(number) => answered(out, [number as u64, 0]),
+        Err(refusal) => refused(out, refusal),
     }
 }
 
@@ -195,21 +170,21 @@ pub fn kitchen_compare(first: &[u8], second: &[u8], out: &mut [u64; 2]) -> u32
 {
     let answer = calls::compare(first, second);
     match answer {
-        CompareAnswer::Alike => answered(out, 1, 0),
-        CompareAnswer::Unlike => answered(out, 0, 0),
-        CompareAnswer::Refused(refusal) => refused(out, refusal),
+        Ok(true) => answered(out, [1, 0]),
+        Ok(false) => answered(out, [0, 0]),
+        Err(refusal) => refused(out, refusal),
     }
 }
 
 // ---- saving
 
 // The length of a new file, or why it is not written.
-fn saved(out: &mut [u64; 2], answer: SaveAnswer) -> u32
+fn saved(out: &mut [u64; 2], answer: Result<usize, Refusal>) -> u32
     ensures { record { status = result; words = out.new } ≡ returned alone (save_told answer) }
 {
     match answer {
-        SaveAnswer::Saved(n) => answered(out, n as u64, 0),
-        SaveAnswer::Refused(refusal) => refused(out, refusal),
+        Ok(len) => answered(out, [len as u64, 0]),
+        Err(refusal) => refused(out, refusal),
     }
 }
 

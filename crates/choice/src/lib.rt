@@ -2,13 +2,15 @@
 // set aside.
 #![tactic(auto)]
 
-ghost use Rattle.std.specs.Prelude.{◌≡◌, ◌≤◌, length, get_or};
+ghost use Rattle.std.specs.Prelude.{◌≡◌, [], ℕ, ◌≤◌, ◌<◌, length, get_or};
+ghost use Rattle.reading.specs.declared.Reason.TheVariants.{NoSelection as no_selection};
 ghost use Rattle.network.specs.Network.{listed};
 ghost use Rattle.network.specs.Groups.{Partition};
 ghost use Rattle.filter.specs.Filter.{GoalsWithin};
 ghost use Rattle.network.specs.Tables.{Tabled};
 ghost use Rattle.choice.specs.Choice.{smallest, chosen, unaided, offered};
 ghost use Rattle.choice.specs.Meaning.{found_by, is_some};
+ghost use Rattle.choice.specs.Search.{Filtered};
 
 pub mod find;
 mod least;
@@ -17,21 +19,29 @@ pub mod tabled;
 use filter::passes;
 use jobfile::ReadChoice;
 use network::{partition, tables};
+use reading::{Reason, Refusal};
 use sets::{ArticleSet, table};
 
-// A set of articles, or that there is none.
+// A selection, with what the filter set aside.
 #[derive(Clone, Copy)]
-pub enum Found {
-    Set(u64),
-    Nothing,
+pub struct Chosen {
+    pub selection: u64,
+    pub aside: u64,
 }
 
-// A selection with the set aside; or that there is no selection, with the place of 14: the index of the
-// first goal that falls short, the length of the list if none does.
+// That there is no selection, with the place of 14: the index of the first goal that falls short, the
+// length of the list if none does.
 #[derive(Clone, Copy)]
-pub enum Choice {
-    Chosen { selection: u64, aside: u64 },
-    Nothing(usize),
+pub struct NoSelection {
+    pub place: usize,
+}
+
+impl From<NoSelection> for Refusal {
+    ghost from_gives = { λ none refusal. refusal ≡ record { reason = no_selection; place = none.place } };
+
+    fn from(none: NoSelection) -> Refusal {
+        Reason::NoSelection.at(none.place)
+    }
 }
 
 // The smallest set of allowed articles, no two of which clash, that covers the need and whose number
@@ -43,7 +53,7 @@ pub fn smallest(
     allowed: u64,
     need: u64,
     floor: u64,
-) -> Found
+) -> Option<u64>
     requires { Tabled 64 wishes.now clashes.now carriers.now }
     ensures { result ≡ found_by (smallest (listed 64 wishes.now clashes.now) allowed need floor) }
 {
@@ -55,8 +65,7 @@ pub fn smallest(
         need,
         floor,
         ArticleSet::CAPACITY,
-        0,
-        false,
+        None,
     )
 }
 
@@ -71,11 +80,21 @@ pub fn coverable(
     requires { Tabled 64 wishes.now clashes.now carriers.now }
     ensures { result ≡ is_some (smallest (listed 64 wishes.now clashes.now) allowed need 0) }
 {
-    let found = find::find(wishes, clashes, carriers, allowed, need);
-    match found {
-        Found::Set(_x) => true,
-        Found::Nothing => false,
+    find::find(wishes, clashes, carriers, allowed, need).is_some()
+}
+
+// The articles that the filter leaves. If a goal falls short, there is no selection.
+fn filtered(wishes: &[u64; 64], n: usize, groups: &[u8], goals: &[u64]) -> Result<u64, NoSelection>
+    requires { (n ≤ 64) × (n ≤ length groups.now) × ((u : ℕ) → u < n → get_or groups.now u 0 < n) }
+    ensures { Filtered (listed n wishes.now []) (λ u. get_or groups.now u 0) goals.now result }
+{
+    let reached = passes::pass_each(wishes, groups, n, goals);
+    if reached.short < goals.len() {
+        return Err(NoSelection {
+            place: reached.short,
+        });
     }
+    Ok(reached.live)
 }
 
 // The choice for an order. If a goal falls short, there is no selection, and no search is made.
@@ -87,26 +106,14 @@ pub fn choose(
     goals: &[u64],
     order: u64,
     floor: u64,
-) -> Choice
+) -> Result<Chosen, NoSelection>
     requires { (n ≤ 64) × (n ≤ length groups.now) × Partition (listed n wishes.now clashes.now) (λ u. get_or groups.now u 0) × GoalsWithin order goals.now }
     ensures { result ≡ chosen (listed n wishes.now clashes.now) (λ u. get_or groups.now u 0) goals.now order floor }
 {
-    let reached = passes::pass_each(wishes, groups, n, goals);
-    if reached.short < goals.len() {
-        return Choice::Nothing(reached.short);
-    }
+    let live = filtered(wishes, n, groups, goals)?;
     let both = tables::both_ways(clashes);
     let carriers = table::transposed(wishes);
-    tabled::among(
-        wishes,
-        &both,
-        &carriers,
-        n,
-        reached.live,
-        order,
-        floor,
-        goals.len(),
-    )
+    tabled::among(wishes, &both, &carriers, n, live, order, floor, goals.len())
 }
 
 // The choice for an order by our own partition, with the whole order as the only goal.
@@ -116,7 +123,7 @@ pub fn choose_alone(
     n: usize,
     order: u64,
     floor: u64,
-) -> Choice
+) -> Result<Chosen, NoSelection>
     requires { n ≤ 64 }
     ensures { result ≡ unaided (listed n wishes.now clashes.now) order floor }
 {
@@ -130,7 +137,7 @@ pub fn choose_alone(
 }
 
 // What the program chooses for an order.
-pub fn offer(job: ReadChoice, order: u64) -> Choice
+pub fn offer(job: ReadChoice, order: u64) -> Result<Chosen, NoSelection>
     requires { job.articles ≤ 64 }
     ensures { result ≡ offered (listed job.articles job.wishes job.clashes) order }
 {

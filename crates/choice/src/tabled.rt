@@ -8,8 +8,7 @@ ghost use Rattle.filter.specs.Filter.{GoalsWithin};
 ghost use Rattle.choice.specs.Choice.{smallest, chosen, offered};
 ghost use Rattle.choice.specs.Meaning.{chosen_by};
 
-use crate::{Choice, Found};
-use filter::passes;
+use crate::{Chosen, NoSelection};
 use sets::word;
 
 // The choice among live articles; all others are set aside. If there is none, it has this place.
@@ -22,16 +21,14 @@ pub fn among(
     order: u64,
     floor: u64,
     place: usize,
-) -> Choice
+) -> Result<Chosen, NoSelection>
     requires { (n ≤ 64) × Tabled 64 wishes.now clashes.now carriers.now }
     ensures { result ≡ chosen_by (smallest (listed 64 wishes.now clashes.now) live order floor) (without (full n) live) place }
 {
     let aside = word::without(word::full(n), live);
     let found = crate::smallest(wishes, clashes, carriers, live, order, floor);
-    match found {
-        Found::Set(selection) => Choice::Chosen { selection, aside },
-        Found::Nothing => Choice::Nothing(place),
-    }
+    let selection = found.ok_or(NoSelection { place })?;
+    Ok(Chosen { selection, aside })
 }
 
 // The choice for an order. The search is among the articles that the filter leaves: every selection
@@ -44,24 +41,12 @@ pub fn choose(
     groups: &[u8],
     goals: &[u64],
     order: u64,
-) -> Choice
+) -> Result<Chosen, NoSelection>
     requires { (n ≤ 64) × (n ≤ length groups.now) × Tabled 64 wishes.now clashes.now carriers.now × Partition (listed n wishes.now clashes.now) (λ u. get_or groups.now u 0) × GoalsWithin order goals.now }
     ensures { result ≡ chosen (listed n wishes.now clashes.now) (λ u. get_or groups.now u 0) goals.now order 0 }
 {
-    let reached = passes::pass_each(wishes, groups, n, goals);
-    if reached.short < goals.len() {
-        return Choice::Nothing(reached.short);
-    }
-    among(
-        wishes,
-        clashes,
-        carriers,
-        n,
-        reached.live,
-        order,
-        0,
-        goals.len(),
-    )
+    let live = crate::filtered(wishes, n, groups, goals)?;
+    among(wishes, clashes, carriers, n, live, order, 0, goals.len())
 }
 
 // What the program chooses for an order. The groups are those of our own partition.
@@ -72,7 +57,7 @@ pub fn offer(
     n: usize,
     groups: &[u8],
     order: u64,
-) -> Choice
+) -> Result<Chosen, NoSelection>
     requires { (n ≤ 64) × (n ≤ length groups.now) × Tabled 64 wishes.now clashes.now carriers.now × ((λ u. get_or groups.now u 0) ≡ group_of (listed n wishes.now clashes.now)) }
     ensures { result ≡ offered (listed n wishes.now clashes.now) order }
 {

@@ -15,19 +15,19 @@ use Rattle.reading.specs.declared.Refusal.{Refusal}
 use Rattle.reading.specs.declared.Spot.{Spot}
 use Rattle.reading.specs.Got.{Got, got, refused}
 use Rattle.reading.specs.Items.{spots}
-use Rattle.jobfile.specs.declared.Verdict.{Verdict}
+use Rattle.std.specs.Prelude.{Result, Ok, Err}
 use Rattle.jobfile.specs.declared.ReadChoice.{ReadChoice}
 use Rattle.jobfile.specs.Layout.{choice}
 use Rattle.jobfile.specs.Job.{Job, size}
 use Rattle.jobfile.specs.Read.{read, choices}
 use Rattle.jobfile.specs.Write.{write}
-use Rattle.jobfile.specs.Meaning.{choice_read, ChoiceBounds}
+use Rattle.jobfile.specs.Meaning.{as_choice, choice_read, ChoiceBounds}
 use Rattle.jobfile.proofs.FileLaws.{Body}
 use Rattle.jobfile.proofs.NamingLaws.{map_got, job_by, read_same}
 use Rattle.arguments.specs.Answers.{Answer, refusal, value, on_job, unless, passed, after_tests, answered, refusal_said, Left, leaving}
 use Rattle.arguments.specs.Tests.{article_test, room_test}
 use Rattle.arguments.specs.Meaning.{verdict_of}
-use Rattle.arguments.proofs.FileLaws.{choice-verdict, file-down, job-down, on-job}
+use Rattle.arguments.proofs.FileLaws.{file-down, job-down, on-job}
 use Rattle.arguments.proofs.TestLaws.{test-refused, through, article-passed}
 use Rattle.changes.specs.Change.{Change, new_order, new_wishes, new_clashes, new_name, changed, is_absent, new_file}
 use Rattle.changes.specs.Places.{name_place}
@@ -35,14 +35,15 @@ use Rattle.changes.proofs.FaultLaws.{name-off}
 use Rattle.writing.specs.Put.{Put}
 use Rattle.writing.specs.Meaning.{choice_in, Writable}
 use Rattle.writing.proofs.PutLaws.{put_front, put_whole}
+use Rattle.drafts.specs.declared.draft.Draft.{Draft}
 use Rattle.drafts.specs.Draft.{drafted, draft_in, draft_of, stored}
-use Rattle.drafts.specs.Meaning.{by_verdict, ordering, wishing, clashing}
+use Rattle.drafts.specs.Meaning.{draft_by, ordering, wishing, clashing}
 use Rattle.drafts.proofs.ReadLaws.{ReadAs}
 use Rattle.drafts.proofs.ColumnLaws.{order-written, wishes-written, clashes-written, name-written}
 
 -- the old file is refused
-pub draft-down : (f : List ℕ) (change : Change) {v : Verdict} {x : Refusal} → v ≡ (choice_read (read spots choices f)).verdict → v ≡ Verdict.Refused x → refusal x.reason x.place ≡ draft_of f change
-draft-down f change p q = job-down (draft_in change) (file-down f choices (p ∙ choice-verdict (read spots choices f)) q)
+pub draft-down : (f : List ℕ) (change : Change) {v : Result ReadChoice Refusal} {x : Refusal} → v ≡ choice_read (read spots choices f) → v ≡ Err x → refusal x.reason x.place ≡ draft_of f change
+draft-down f change p q = job-down (draft_in change) (file-down as_choice f choices p q)
 
 -- one test, and what comes after it
 after_test : {A : Type 0} (fault : Bool) (reason : Reason) (a : Answer A) → after_tests (unless fault reason passed) a ≡ unless fault reason a
@@ -51,7 +52,7 @@ after_test false reason a = refl
 
 module _ (f : List ℕ) (r : ReadChoice) (R : ReadAs f r) (change : Change) where
   -- the article is absent
-  pub draft-absent : (i : ℕ) → is_absent change R.job ≡ leb (size R.job) i → {v : Verdict} {x : Refusal} → v ≡ verdict_of (article_test i r.articles) → v ≡ Verdict.Refused x
+  pub draft-absent : (i : ℕ) → is_absent change R.job ≡ leb (size R.job) i → {v : Result (Unit {0}) Refusal} {x : Refusal} → v ≡ verdict_of (article_test i r.articles) → v ≡ Err x
       → refusal x.reason x.place ≡ draft_of f change
   draft-absent i is p q =
       let rest = drafted (write (changed change R.job)) in
@@ -64,26 +65,30 @@ module _ (f : List ℕ) (r : ReadChoice) (R : ReadAs f r) (change : Change) wher
       ap (λ (j : Job (List ℕ)). drafted (write j)) (sym e) ∙ ap (λ (b : Bool). unless b OutOfRange (drafted (write (changed change R.job)))) (sym is) ∙ on-job (draft_in change) R.is
 
 -- an article that the test lets through is there
-there : (f : List ℕ) (r : ReadChoice) (R : ReadAs f r) (i : ℕ) {v : Verdict} → v ≡ verdict_of (article_test i r.articles) → v ≡ Verdict.Accepted → (i < r.articles) × (leb (size R.job) i ≡ false)
+there : (f : List ℕ) (r : ReadChoice) (R : ReadAs f r) (i : ℕ) {v : Result (Unit {0}) Refusal} → v ≡ verdict_of (article_test i r.articles) → v ≡ Ok tt → (i < r.articles) × (leb (size R.job) i ≡ false)
 there f r R i p q =
     let t = article-passed i r.articles p q in
     (leb-false r.articles i t, ap (λ (n : ℕ). leb n i) (sym R.counted) ∙ t)
 
 -- ---- the page
 
--- the verdict on a file is what its draft says
-verdict-drafted : (f : List ℕ) (v : Verdict) → v ≡ (choice_read (read spots choices f)).verdict → by_verdict v f ≡ drafted f
-verdict-drafted f v e = ap (λ (x : Verdict). by_verdict x f) e ∙ go (read spots choices f) ∙ ap (λ (g : Got (Job (List ℕ))). on_job g (λ job. value f)) (sym (read_same f choices))
+-- what reading a file says of it as a draft
+abbrev pub by_reading : Result ReadChoice Refusal → List ℕ → Answer (List ℕ)
+by_reading (Err x) f = refusal x.reason x.place
+by_reading (Ok r) f = value f
+
+reading-drafted : (f : List ℕ) (v : Result ReadChoice Refusal) → v ≡ choice_read (read spots choices f) → by_reading v f ≡ drafted f
+reading-drafted f v e = ap (λ (x : Result ReadChoice Refusal). by_reading x f) e ∙ go (read spots choices f) ∙ ap (λ (g : Got (Job (List ℕ))). on_job g (λ job. value f)) (sym (read_same f choices))
   where
-    go : (g : Got (Job Spot)) → by_verdict (choice_read g).verdict f ≡ on_job (map_got (job_by f) g) (λ job. value f)
+    go : (g : Got (Job Spot)) → by_reading (choice_read g) f ≡ on_job (map_got (job_by f) g) (λ job. value f)
     go (refused reason place) = refl
     go (got job end) = refl
 
 -- a file that was put on a page and read there
-pub page-drafted : {old new page : List ℕ} {len : ℕ} {v : Verdict} → Put old 0 new page len → len ≤ length old → v ≡ (choice_read (read spots choices (take (len - 0) page))).verdict → by_verdict v (take len page) ≡ drafted new
+pub page-drafted : {old new page : List ℕ} {len : ℕ} {v : Result ReadChoice Refusal} → Put old 0 new page len → len ≤ length old → v ≡ choice_read (read spots choices (take (len - 0) page)) → by_reading v (take len page) ≡ drafted new
 page-drafted {page = page} {len = len} {v = v} p room e =
     let all : len - 0 ≡ len = omega arith in
-    verdict-drafted (take len page) v (e ∙ ap (λ (n : ℕ). (choice_read (read spots choices (take n page))).verdict) all) ∙ ap drafted (put_front p room)
+    reading-drafted (take len page) v (e ∙ ap (λ (n : ℕ). choice_read (read spots choices (take n page))) all) ∙ ap drafted (put_front p room)
 
 -- a name that is cut after 33 bytes makes a file that is the same, or is refused for the same reason at the same place
 cut-same : (job : Job (List ℕ)) → Body choice job → (i : ℕ) (new : List ℕ) → i < size job → drafted (new_file (new_name i (take 33 new)) job) ≡ drafted (new_file (new_name i new) job)
@@ -107,7 +112,7 @@ module _ (f : List ℕ) (r : ReadChoice) (R : ReadAs f r) where
       ap (λ (x : ReadChoice). drafted (write (choice_in f x number name))) e
       ∙ draft-made f r R (new_order v) refl (ap (changed (new_order v)) (R.written number name above) ∙ order-written f r v number name)
 
-  module _ (i : ℕ) {v : Verdict} (few : r.articles ≤ 64) (p : v ≡ verdict_of (article_test i r.articles)) (q : v ≡ Verdict.Accepted) where
+  module _ (i : ℕ) {v : Result (Unit {0}) Refusal} (few : r.articles ≤ 64) (p : v ≡ verdict_of (article_test i r.articles)) (q : v ≡ Ok tt) where
     pub wishes-drafted : (set number : ℕ) (name : List ℕ) {o : ReadChoice} → r.articles ≤ number → o ≡ wishing r i set
         → drafted (write (choice_in f o number name)) ≡ draft_of f (new_wishes i set)
     wishes-drafted set number name above e =
@@ -140,11 +145,14 @@ page-stored {old} page len p fits room =
     let all : len - 0 ≡ len = omega arith in
     put_whole p (omega (arith, length-take-le (len - 0) page (omega arith))) ∙ ap (λ (n : ℕ). take n page ++ drop (length (take n page)) old) all
 
-module _ (old file : List ℕ) {v : Verdict} where
-  pub store-down : {x : Refusal} → v ≡ Verdict.Refused x → record { answer = refusal_said x; buffer = old } ≡ stored old (by_verdict v file)
-  store-down e = ap (λ (w : Verdict). stored old (by_verdict w file)) (sym e)
+module _ (old : List ℕ) {d : Result Draft Refusal} where
+  pub store-down : {x : Refusal} → d ≡ Err x → record { answer = refusal_said x; buffer = old } ≡ stored old (draft_by d)
+  store-down e = ap (λ (w : Result Draft Refusal). stored old (draft_by w)) (sym e)
 
-  module _ (accepted : v ≡ Verdict.Accepted) {len : ℕ} {t : Verdict} (size : len ≡ length file) (test : t ≡ verdict_of (room_test (length old) len)) where
+  module _ {m : Draft} (accepted : d ≡ Ok m) {t : Result (Unit {0}) Refusal} (size : m.len ≡ length (take m.len m.page)) (test : t ≡ verdict_of (room_test (length old) m.len)) where
+    abbrev file : List ℕ
+    file = take m.len m.page
+
     abbrev room : Answer (Unit {0})
     room = room_test (length old) (length file)
 
@@ -155,11 +163,11 @@ module _ (old file : List ℕ) {v : Verdict} where
     abbrev out : Answer (List ℕ) → Left ℕ
     out a = leaving (λ new. new) (λ new. length new) old a
 
-    is : out (after_tests room (value file)) ≡ stored old (by_verdict v file)
-    is = ap (λ (w : Verdict). stored old (by_verdict w file)) (sym accepted)
+    is : out (after_tests room (value file)) ≡ stored old (draft_by d)
+    is = ap (λ (w : Result Draft Refusal). stored old (draft_by w)) (sym accepted)
 
-    pub store-short : {x : Refusal} → t ≡ Verdict.Refused x → record { answer = refusal_said x; buffer = old } ≡ stored old (by_verdict v file)
+    pub store-short : {x : Refusal} → t ≡ Err x → record { answer = refusal_said x; buffer = old } ≡ stored old (draft_by d)
     store-short e = ap out (test-refused room (value file) tested e) ∙ is
 
-    pub store-made : {new : List ℕ} → t ≡ Verdict.Accepted → new ≡ file ++ drop (length file) old → record { answer = answered len; buffer = new } ≡ stored old (by_verdict v file)
+    pub store-made : {new : List ℕ} → t ≡ Ok tt → new ≡ file ++ drop (length file) old → record { answer = answered m.len; buffer = new } ≡ stored old (draft_by d)
     store-made e made = ap₂ (λ (n : ℕ) (l : List ℕ). record { answer = answered n; buffer = l }) size made ∙ ap out (through room (value file) tested e) ∙ is

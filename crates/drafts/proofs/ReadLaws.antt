@@ -11,19 +11,19 @@ use Rattle.sets.proofs.Ranges.{list_length, list_at}
 use Rattle.reading.specs.declared.Spot.{Spot}
 use Rattle.reading.specs.Got.{got}
 use Rattle.reading.specs.Items.{spots}
-use Rattle.jobfile.specs.declared.Verdict.TheVariants as Verdict
+use Rattle.std.specs.Prelude.{Ok}
 use Rattle.jobfile.specs.declared.ReadChoice.{ReadChoice}
 use Rattle.jobfile.specs.Layout.{choice}
 use Rattle.jobfile.specs.Job.{Record, no_record, Job, column, column_after, prices, size}
 use Rattle.jobfile.specs.Read.{read, read_job, choices}
 use Rattle.jobfile.specs.Valid.{Bytes, AllFrom, ValidRecord}
-use Rattle.jobfile.specs.Meaning.{padded, starts_of, lens_of, choice_read, names_read, Few, NamesWithin, ChoiceBounds}
+use Rattle.jobfile.specs.Meaning.{padded, starts_of, lens_of, as_choice, as_names, choice_read, names_read, Few, ChoiceBounds}
 use Rattle.jobfile.proofs.FileLaws.{Body}
 use Rattle.jobfile.proofs.NamingLaws.{record_by, map_got, job_by, read_same}
 use Rattle.jobfile.proofs.ReadLaws.{padded-at}
 use Rattle.jobfile.proofs.ShortLaws.{lens-short}
 use Rattle.jobfile.proofs.StatedLaws.{column-length, choice-counts, choice-head, choice-fields, choice-after, choice-stated}
-use Rattle.arguments.proofs.FileLaws.{as-taken, choice-verdict}
+use Rattle.arguments.proofs.FileLaws.{as-taken}
 use Rattle.writing.specs.Meaning.{article_by, article_in, choice_in}
 
 -- ---- the records of a file
@@ -57,7 +57,7 @@ pub record ReadAs (f : List ℕ) (r : ReadChoice) : Type 0 where
   pub clashes-length : length r.clashes ≡ 64
 
 module _ (f : List ℕ) (bytes : Bytes f) where
-  as-got : (job : Job Spot) (end : ℕ) → read spots choices f ≡ got job end → ChoiceBounds f (choice_read (got job end)) → ReadAs f (choice_read (got job end))
+  as-got : (job : Job Spot) (end : ℕ) → read spots choices f ≡ got job end → ChoiceBounds f (as_choice job) → ReadAs f (as_choice job)
   as-got job end e bounds = record {
     job = job_by f job;
     end = end;
@@ -71,7 +71,7 @@ module _ (f : List ℕ) (bytes : Bytes f) where
           heads = choice-head (get_or job.counts 1 0) job.heads stated.heads k;
           records = records number name above k;
         };
-    short = subst (λ g. (i : ℕ) → get_or (names_read g).lens i 0 ≤ 32) e (lens-short choices f bytes bounds.3 (subst (λ g. NamesWithin (length f) (names_read g).starts (names_read g).lens) (sym e) bounds.2));
+    short = lens-short choices f bytes {r = as_names job} (sym (ap names_read e)) bounds.3 bounds.2;
     wishes-length = list_length 64 (λ i. get_or (column 0 job.records) i 0);
     clashes-length = list_length 64 (λ i. get_or (column 1 job.records) i 0);
   }
@@ -101,23 +101,23 @@ module _ (f : List ℕ) (bytes : Bytes f) where
         padded-at 64 (lens_of job.records) (omega (arith, length-map job.records (λ r. r.name.len), few.0, few.1)),
       )
 
-      records : (number : ℕ) (name : List ℕ) → size job ≤ number → map (record_by f) job.records ≡ list_to (size job) (article_in f (choice_read (got job end)) number name)
+      records : (number : ℕ) (name : List ℕ) → size job ≤ number → map (record_by f) job.records ≡ list_to (size job) (article_in f (as_choice job) number name)
       records number name above =
-          let all = list_to (size job) (article_in f (choice_read (got job end)) number name) in
-          ext_get_or no_record (map (record_by f) job.records) all (length-map job.records (record_by f) ∙ few.0 ∙ sym (list_length (size job) (article_in f (choice_read (got job end)) number name)))
+          let all = list_to (size job) (article_in f (as_choice job) number name) in
+          ext_get_or no_record (map (record_by f) job.records) all (length-map job.records (record_by f) ∙ few.0 ∙ sym (list_length (size job) (article_in f (as_choice job) number name)))
           (λ i l.
           let h : i < length job.records = subst (λ (n : ℕ). i < n) (length-map job.records (record_by f)) l in
           let m : i < size job = omega (arith, few.0) in
           record-at f (get_or job.counts 1 0) 0 job.records stated.records i h ∙ article number name i (omega (arith, above))
-          ∙ sym (list_at (size job) (article_in f (choice_read (got job end)) number name) no_record i m))
+          ∙ sym (list_at (size job) (article_in f (as_choice job) number name) no_record i m))
         where
           article : (number : ℕ) (name : List ℕ) (i : ℕ) → i < number
-              → article_by (get_or (column 0 job.records) i 0) (get_or (column 1 job.records) i 0) (take (get_or (lens_of job.records) i 0) (drop (get_or (starts_of job.records) i 0) f)) (get_or (prices job) i 0) ≡ article_in f (choice_read (got job end)) number name i
+              → article_by (get_or (column 0 job.records) i 0) (get_or (column 1 job.records) i 0) (take (get_or (lens_of job.records) i 0) (drop (get_or (starts_of job.records) i 0) f)) (get_or (prices job) i 0) ≡ article_in f (as_choice job) number name i
           article number name i above =
               rw (at-column 0 i, at-column 1 i, at-price i, at-spot.0 i, at-spot.1 i, ne_eqb i number (λ q. let z : ⊥ = omega arith in z))
 
-  pub as_read : (r : ReadChoice) → r ≡ choice_read (read spots choices f) → ChoiceBounds f r → r.verdict ≡ Verdict.Accepted → ReadAs f r
-  as_read r e bounds accepted =
-      let t = as-taken (read spots choices f) (sym (ap (λ x. x.verdict) e ∙ choice-verdict (read spots choices f)) ∙ accepted) in
-      let q : r ≡ choice_read (got t.job t.end) = e ∙ ap choice_read t.is in
+  pub as_read : (r : ReadChoice) → Ok r ≡ choice_read (read spots choices f) → ChoiceBounds f r → ReadAs f r
+  as_read r e bounds =
+      let t = as-taken as_choice (read spots choices f) (sym e) in
+      let q : r ≡ as_choice t.job = t.told in
       subst (ReadAs f) (sym q) (as-got t.job t.end t.is (subst (ChoiceBounds f) q bounds))

@@ -1,12 +1,10 @@
 -- Plan extraction: working back over tables of round layers, one round at a time. `planning` says what rounds and plans are; here a round
 -- for a goal is a selection of a round layer.
-use Rattle.std.specs.Prelude.{◌≡◌, Bool, true, false, List, ◌⊎◌, ℕ, zero, suc, ◌+◌, ◌*◌, ◌/◌, ◌%◌, ◌^◌, ◌≤◌, ◌<◌, length, get_or}
+use Rattle.std.specs.Prelude.{◌≡◌, Bool, true, false, List, ◌⊎◌, ℕ, zero, suc, ◌+◌, ◌*◌, ◌/◌, ◌%◌, ◌^◌, ◌≤◌, ◌<◌, length, get_or, Option, Some, None, Result, Ok, Err}
 use Rattle.sets.specs.Sets.{◌⊆◌, full, gathered}
 use Rattle.network.specs.Network.{listed, Cover}
 use Rattle.network.specs.Tables.{Tabled}
 use Rattle.supports.specs.Supports.{row_of}
-use Rattle.extraction.specs.declared.Extraction.{Extraction}
-use Rattle.extraction.specs.declared.nogoods.Known.{Known}
 
 -- the 32 facts
 abbrev pub all_facts : ℕ
@@ -61,9 +59,9 @@ unfoldable pub Nogoods : Graph → List ℕ → Type 0
 Nogoods T table = (i : ℕ) → 0 < i → 0 < get_or table i 0 / 2 ^ 32 → (get_or table i 0 / 2 ^ 32 ≤ length T.members) × (Back T (get_or table i 0 / 2 ^ 32) (get_or table i 0 % 2 ^ 32) → ⊥)
 
 -- an entry for k rounds or more whose set is a part of g, or nothing
-abbrev pub Noted : List ℕ → ℕ → ℕ → Known → Type 0
-Noted table k g Known.Nothing = Unit {0}
-Noted table k g (Known.Nogood c) = (c ⊆ g) × ((i : ℕ) × (0 < i) × (k ≤ get_or table i 0 / 2 ^ 32) × (c ≡ get_or table i 0 % 2 ^ 32))
+abbrev pub Noted : List ℕ → ℕ → ℕ → Option ℕ → Type 0
+Noted table k g None = Unit {0}
+Noted table k g (Some c) = (c ⊆ g) × ((i : ℕ) × (0 < i) × (k ≤ get_or table i 0 / 2 ^ 32) × (c ≡ get_or table i 0 % 2 ^ 32))
 
 -- each entry of the new table is one of the old, or the pair of k and e
 abbrev pub Stored : ℕ → ℕ → List ℕ → List ℕ → Type 0
@@ -93,6 +91,6 @@ Refutes T zero g may must why e = Lacking T g why e
 Refutes T (suc j) g may must why e = Blocked T j g may must why e
 
 -- a plan of k rounds for g is in p; or facts of g, with those of why, that the selections of the box cannot be worked back for
-abbrev pub Extracted : Graph → ℕ → ℕ → ℕ → ℕ → ℕ → List ℕ → Extraction → Type 0
-Extracted T k g may must why p Extraction.Made = Held T k g p
-Extracted T k g may must why p (Extraction.Refuted e) = Refutes T k g may must why e
+abbrev pub Extracted : Graph → ℕ → ℕ → ℕ → ℕ → ℕ → List ℕ → Result (Unit {0}) ℕ → Type 0
+Extracted T k g may must why p (Ok made) = Held T k g p
+Extracted T k g may must why p (Err e) = Refutes T k g may must why e

@@ -7,8 +7,6 @@ ghost use Rattle.extraction.specs.Extraction.{all_facts, graph, Fine, Nogoods, U
 
 mod nogoods;
 
-use choice::Found;
-use nogoods::Known;
 use sets::word;
 
 // The set of all 32 facts.
@@ -19,13 +17,6 @@ const FIRST_STEP: usize = 32;
 
 // A refuted set of this size or smaller is not made smaller.
 const FEW: u32 = 3;
-
-// A plan, or facts that are refuted.
-#[derive(Clone, Copy)]
-pub enum Extraction {
-    Made,
-    Refuted(u64),
-}
 
 // The steps among the vertices of a selection, keepers left out.
 fn steps_of(selection: u64) -> u32
@@ -38,10 +29,7 @@ fn steps_of(selection: u64) -> u32
 fn whole(may: u64, must: u64) -> bool
     ensures { result ≡ (eqb may all_facts && eqb must 0) }
 {
-    if may != ALL_FACTS {
-        return false;
-    }
-    must == 0
+    may == ALL_FACTS && must == 0
 }
 
 // The facts that may still be dropped: of those left, those that are still refuted; none if `FEW` or
@@ -109,7 +97,7 @@ fn dropped(
             0,
         );
         left = others;
-        let Extraction::Refuted(e) = inner else {
+        let Err(e) = inner else {
             continue;
         };
         least = e;
@@ -130,8 +118,9 @@ fn dropped(
 // first and not the second, and so on: a box has the selections whose needs lie in `may` and include
 // `must`. `why` has the facts by which the boxes before this one were refuted.
 //
-// What falls is k, and for one k `may`, as a number. The answer is a plan, in the words 0 to k - 1; or
-// facts of the goal, with those of `why`, for which no selection in the box leads back to the start.
+// What falls is k, and for one k `may`, as a number. The answer is that a plan is made, in the words 0 to
+// k - 1; or as the error the facts by which the goal is refuted: facts of the goal, with those of `why`,
+// for which no selection in the box leads back to the start.
 #[cycle(dropped_extract)]
 pub fn extract(
     needs: &[u64; 64],
@@ -147,7 +136,7 @@ pub fn extract(
     may: u64,
     must: u64,
     why: u64,
-) -> Extraction
+) -> Result<(), u64>
     requires fine { Fine (graph needs.now gives.now members.now words.now start) carriers.now × Nogoods (graph needs.now gives.now members.now words.now start) table.old }
     requires k_in_bounds { (k ≤ length members.now) × (k ≤ length plan.old) × (goal ⊆ all_facts) × (may ⊆ all_facts) × (why ⊆ goal) }
     ensures { Extracted (graph needs.now gives.now members.now words.now start) k goal may must why plan.new result × Nogoods (graph needs.now gives.now members.now words.now start) table.new }
@@ -155,31 +144,31 @@ pub fn extract(
     if k == 0 {
         let lack = word::without(goal, start);
         if lack == 0 {
-            return Extraction::Made;
+            return Ok(());
         }
-        return Extraction::Refuted(word::more(why, word::lowest(lack)));
+        return Err(word::more(why, word::lowest(lack)));
     }
     let first = whole(may, must);
     let seen = nogoods::lookup(table, k, goal, first);
-    if let Known::Nogood(c) = seen {
-        return Extraction::Refuted(c | why);
+    if let Some(c) = seen {
+        return Err(c | why);
     }
     let j = k - 1;
     let open = supports::open_to(needs, members[j], may);
     let picked = supports::ask(gives, carriers, words, j, open, goal);
-    let Found::Set(selection) = picked else {
+    let Some(selection) = picked else {
         let e = supports::explain(gives, carriers, words, j, open, goal, why);
         nogoods::store(table, k, e, first);
-        return Extraction::Refuted(e);
+        return Err(e);
     };
     let wanted = word::gather(needs, selection);
     let before = nogoods::stored(table);
     let below = extract(
         needs, gives, carriers, members, words, start, plan, table, j, wanted, ALL_FACTS, 0, 0,
     );
-    let Extraction::Refuted(refuted) = below else {
+    let Err(refuted) = below else {
         plan[j] = steps_of(selection);
-        return Extraction::Made;
+        return Ok(());
     };
     let c = dropped(
         needs, gives, carriers, members, words, start, plan, table, j, refuted, before,
@@ -204,13 +193,13 @@ pub fn extract(
             kept,
             reason,
         );
-        let Extraction::Refuted(e) = turn else {
-            return Extraction::Made;
+        let Err(e) = turn else {
+            return Ok(());
         };
         reason = e;
         kept = word::more(kept, f);
         left = word::less(left, f);
     }
     nogoods::store(table, k, reason, first);
-    Extraction::Refuted(reason)
+    Err(reason)
 }

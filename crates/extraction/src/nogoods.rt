@@ -17,19 +17,9 @@ const MANY: u64 = 1024;
 // An entry is a count of rounds times this, plus a set of facts.
 const ROUND: u64 = 0x1_0000_0000;
 
-// What the table knows of some facts: a nogood that is a part of them, or nothing.
-#[derive(Clone, Copy)]
-pub enum Known {
-    Nogood(u64),
-    Nothing,
-}
-
 // The place of the last nogood; 0 if there is none.
 pub fn stored(table: &[u64]) -> u64 {
-    if table.len() == 0 {
-        return 0;
-    }
-    table[0]
+    table.first().copied().unwrap_or(0)
 }
 
 // Whether the place of the last nogood is another than `before`, and is `MANY` or after it: then the
@@ -38,36 +28,31 @@ pub fn stored(table: &[u64]) -> u64 {
 // searches of the bench that fill the ring take more nodes (docs/PERFORMANCE.md).
 pub fn many(table: &[u64], before: u64) -> bool {
     let last = stored(table);
-    if last == before {
-        return false;
-    }
-    MANY <= last
+    last != before && MANY <= last
 }
 
 // The first nogood for k rounds or more whose facts are all among these. Nothing is looked up if `on`
 // is false.
-pub fn lookup(table: &[u64], k: usize, facts: u64, on: bool) -> Known
+pub fn lookup(table: &[u64], k: usize, facts: u64, on: bool) -> Option<u64>
     ensures { Noted table.now k facts result }
 {
     if !on {
-        return Known::Nothing;
+        return None;
     }
-    let mut i: usize = 1;
-    while i < table.len() {
+    for i in 1..table.len() {
         let word = table[i];
         if word == 0 {
-            return Known::Nothing;
+            return None;
         }
         let r = (word / ROUND) as usize;
         if k <= r {
             let c = word % ROUND;
             if word::without(c, facts) == 0 {
-                return Known::Nogood(c);
+                return Some(c);
             }
         }
-        i += 1;
     }
-    Known::Nothing
+    None
 }
 
 // The place after the last, from 1 to n - 1 and from the front again.

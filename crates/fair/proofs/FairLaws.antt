@@ -9,22 +9,24 @@ use Rattle.reading.specs.declared.Reason.TheVariants.{OrderOutsideFile}
 use Rattle.reading.specs.declared.Refusal.{Refusal}
 use Rattle.reading.specs.Got.{got}
 use Rattle.reading.specs.Items.{spots}
-use Rattle.jobfile.specs.declared.Verdict.{Verdict}
+use Rattle.std.specs.Prelude.{Result, Ok, Err}
 use Rattle.jobfile.specs.declared.ReadChoice.{ReadChoice}
 use Rattle.jobfile.specs.Job.{Job, order}
-use Rattle.jobfile.specs.Meaning.{choice_read}
+use Rattle.jobfile.specs.Meaning.{as_choice, choice_read}
 use Rattle.jobfile.specs.Read.{read, read_job, choices}
 use Rattle.jobfile.specs.Valid.{Bytes}
 use Rattle.jobfile.proofs.StatedLaws.{choice-head, choice-stated}
 use Rattle.network.specs.Network.{Network, listed, network_of}
 use Rattle.network.specs.Tables.{both_ways}
-use Rattle.choice.specs.declared.Choice.{Choice}
+use Rattle.choice.specs.declared.Chosen as choice
+use Rattle.choice.specs.declared.NoSelection.{NoSelection}
+use Rattle.choice.specs.Meaning.{Choice}
 use Rattle.choice.specs.Choice.{offered}
 use Rattle.choice.proofs.BothLaws.{both-offered}
 use Rattle.arguments.specs.Answers.{Answer, value, on_job, unless, answered, refusal_said, Left, leaving}
 use Rattle.arguments.specs.Tests.{room_test}
 use Rattle.arguments.specs.Meaning.{verdict_of, network_in}
-use Rattle.arguments.proofs.FileLaws.{choice-verdict, file-down, job-down, on-job}
+use Rattle.arguments.proofs.FileLaws.{file-down, job-down, on-job}
 use Rattle.arguments.proofs.TestLaws.{test-refused, through, room-passed}
 use Rattle.arguments.proofs.JobLaws.{ChoiceRead}
 use Rattle.changes.specs.Change.{new_order, alter, changed}
@@ -45,10 +47,10 @@ module _ (N : Network) (w wanted : ℕ) {t : Bool} {c : Choice} (e : t ≡ leb (
   fits : entry_of (searched c) ≡ entry_of (order_over N w wanted)
   fits = ap (λ (c : Choice). entry_of (searched c)) made ∙ ap (λ (b : Bool). entry_of (unless b OrderOutsideFile (searched (offered N wanted)))) (sym q ∙ e)
 
-  pub entry-chosen : {x y s selection aside : ℕ} → c ≡ Choice.Chosen selection aside → s ≡ 0 → x ≡ selection → y ≡ aside → s ∷ x ∷ y ∷ [] ≡ entry_of (order_over N w wanted)
+  pub entry-chosen : {x y s : ℕ} {found : choice.Chosen} → c ≡ Ok found → s ≡ 0 → x ≡ found.selection → y ≡ found.aside → s ∷ x ∷ y ∷ [] ≡ entry_of (order_over N w wanted)
   entry-chosen is es ex ey = (λ i. es i ∷ ex i ∷ ey i ∷ []) ∙ sym (ap (λ (c : Choice). entry_of (searched c)) is) ∙ fits
 
-  pub entry-none : {s x y place : ℕ} → c ≡ Choice.Nothing place → s ≡ 14 → x ≡ 0 → y ≡ 0 → s ∷ x ∷ y ∷ [] ≡ entry_of (order_over N w wanted)
+  pub entry-none : {s x y : ℕ} {none : NoSelection} → c ≡ Err none → s ≡ 14 → x ≡ 0 → y ≡ 0 → s ∷ x ∷ y ∷ [] ≡ entry_of (order_over N w wanted)
   entry-none is es ex ey = (λ i. es i ∷ ex i ∷ ey i ∷ []) ∙ sym (ap (λ (c : Choice). entry_of (searched c)) is) ∙ fits
 
 -- ---- a file that was read
@@ -75,10 +77,10 @@ module _ (f orders old : List ℕ) where
   abbrev left : Answer (List ℕ) → Left (Unit {0})
   left a = leaving (λ words. words) (λ words. tt) old a
 
-  pub fair-down : {v : Verdict} {x : Refusal} → v ≡ (choice_read (read spots choices f)).verdict → v ≡ Verdict.Refused x → record { answer = refusal_said x; buffer = old } ≡ fair_of f orders old
-  fair-down p q = ap left (job-down (λ job. fair_in job orders old) (file-down f choices (p ∙ choice-verdict (read spots choices f)) q))
+  pub fair-down : {v : Result ReadChoice Refusal} {x : Refusal} → v ≡ choice_read (read spots choices f) → v ≡ Err x → record { answer = refusal_said x; buffer = old } ≡ fair_of f orders old
+  fair-down p q = ap left (job-down (λ job. fair_in job orders old) (file-down as_choice f choices p q))
 
-  module _ (bytes : Bytes f) (r : ReadChoice) (R : ChoiceRead f r) {v : Verdict} (tested : v ≡ verdict_of (room_test (length old / entry_words) (length orders))) where
+  module _ (bytes : Bytes f) (r : ReadChoice) (R : ChoiceRead f r) {v : Result (Unit {0}) Refusal} (tested : v ≡ verdict_of (room_test (length old / entry_words) (length orders))) where
     -- each order is answered as on the job of the file
     same_answer : (wanted : ℕ) → order_over (network_in r) r.wish_count wanted ≡ order_in R.job wanted
     same_answer wanted =
@@ -94,13 +96,13 @@ module _ (f orders old : List ℕ) where
     on-file : fair_in R.job orders old ≡ on_job (read_job choices f) (λ job. fair_in job orders old)
     on-file = on-job (λ job. fair_in job orders old) R.is
 
-    pub fair-short : {x : Refusal} → v ≡ Verdict.Refused x → record { answer = refusal_said x; buffer = old } ≡ fair_of f orders old
+    pub fair-short : {x : Refusal} → v ≡ Err x → record { answer = refusal_said x; buffer = old } ≡ fair_of f orders old
     fair-short q = ap left (test-refused (room_test (length old) (entry_words * length orders)) (value (entries (order_in R.job) orders)) test q ∙ on-file)
 
-    pub fair-room : v ≡ Verdict.Accepted → entry_words * length orders ≤ length old
+    pub fair-room : v ≡ Ok tt → entry_words * length orders ≤ length old
     fair-room q = room-passed (length old) (entry_words * length orders) test q
 
-    pub fair-made : {new : List ℕ} → v ≡ Verdict.Accepted → new ≡ entries (order_over (network_in r) r.wish_count) orders ++ drop (entry_words * length orders) old → record { answer = answered tt; buffer = new } ≡ fair_of f orders old
+    pub fair-made : {new : List ℕ} → v ≡ Ok tt → new ≡ entries (order_over (network_in r) r.wish_count) orders ++ drop (entry_words * length orders) old → record { answer = answered tt; buffer = new } ≡ fair_of f orders old
     fair-made {new} q made =
         let all = entries (order_in R.job) orders in
         let same : new ≡ all ++ drop (length all) old =

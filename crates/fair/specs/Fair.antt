@@ -1,15 +1,15 @@
 -- A fair's orders against one choice file (docs/RULES.md, "A fair's orders"): a buffer of three words an order is lent.
-use Rattle.std.specs.Prelude.{List, [], ◌∷◌, ◌++◌, ℕ, ◌*◌, ◌^◌, leb, length}
+use Rattle.std.specs.Prelude.{List, [], ◌∷◌, ◌++◌, ℕ, ◌*◌, ◌^◌, leb, length, Result}
+use Rattle.reading.specs.declared.Refusal.{Refusal}
 use Rattle.reading.specs.declared.Reason.TheVariants.{OrderOutsideFile}
 use Rattle.reading.specs.Reasons.{number_of}
 use Rattle.jobfile.specs.Job.{Job, wish_count}
 use Rattle.jobfile.specs.Read.{read_job, choices}
-use Rattle.arguments.specs.Answers.{Answer, refusal, value, on_job, unless, after_tests, Said, answered, refusal_said, Left, leaving}
+use Rattle.arguments.specs.Answers.{Answer, refusal, value, on_job, unless, after_tests, Said, result_said, Left, leaving}
 use Rattle.arguments.specs.Tests.{room_test}
 use Rattle.changes.specs.Change.{new_order, changed}
 use Rattle.calls.specs.Choose.{Chosen}
 use Rattle.calls.specs.Offer.{offer_in}
-use Rattle.fair.specs.declared.FairAnswer.{FairAnswer}
 
 -- the answer to an order in place of the file's own: what the program chooses on the job with that order; 18 if it names a wish that the file lacks
 abbrev pub order_in : Job (List ℕ) → ℕ → Answer Chosen
@@ -38,6 +38,5 @@ abbrev pub fair_of : List ℕ → List ℕ → List ℕ → Left (Unit {0})
 fair_of file orders buffer = leaving (λ words. words) (λ words. tt) buffer (on_job (read_job choices file) (λ job. fair_in job orders buffer))
 
 -- what the code's answer says
-abbrev pub fair_told : FairAnswer → Said (Unit {0})
-fair_told (FairAnswer.Refused x) = refusal_said x
-fair_told FairAnswer.Done = answered tt
+abbrev pub fair_told : Result (Unit {0}) Refusal → Said (Unit {0})
+fair_told = result_said (λ done. done)

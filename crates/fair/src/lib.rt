@@ -11,21 +11,14 @@ ghost use Rattle.arguments.specs.Meaning.{network_in};
 ghost use Rattle.fair.specs.Fair.{entry_words, entry_of, entries, fair_of, fair_told};
 ghost use Rattle.fair.specs.Meaning.{order_over};
 
-use choice::{Choice, tabled};
-use jobfile::{ReadChoice, Verdict};
+use choice::tabled;
+use jobfile::ReadChoice;
 use network::{partition, tables};
 use reading::{Reason, Refusal};
 use sets::{ArticleSet, table, word};
 
 // The words of an entry: a status, the selection and the set aside.
 const ENTRY_WORDS: usize = 3;
-
-// That every order has its entry, or why none has.
-#[derive(Clone, Copy)]
-pub enum FairAnswer {
-    Done,
-    Refused(Refusal),
-}
 
 // An entry in the first words of a buffer. Later words stay as they are.
 fn put(words: &mut [u64], status: u64, selection: u64, aside: u64)
@@ -52,26 +45,18 @@ fn answer(
     ensures { words.new ≡ entry_of (order_over (listed n wishes.now clashes.now) wish_count order) ++ drop entry_words words.old }
 {
     if word::exceeds(order, wish_count) {
-        let lacks = reading::number(Reason::OrderOutsideFile);
+        let lacks = u32::from(Reason::OrderOutsideFile);
         put(words, lacks as u64, 0, 0);
         return;
     }
     let chosen = tabled::offer(wishes, clashes, carriers, n, groups, order);
     match chosen {
-        Choice::Chosen { selection, aside } => put(words, 0, selection, aside),
-        Choice::Nothing(_place) => {
-            let none = reading::number(Reason::NoSelection);
+        Ok(found) => put(words, 0, found.selection, found.aside),
+        Err(_none) => {
+            let none = u32::from(Reason::NoSelection);
             put(words, none as u64, 0, 0)
         }
     }
-}
-
-// Order i of the list.
-fn order_at(orders: &[u64], i: usize) -> u64
-    requires { i < length orders.now }
-    ensures { result ≡ get_or orders.now i 0 }
-{
-    orders[i]
 }
 
 // The entry of each order, in its own words. Words past the last entry stay as they are.
@@ -88,11 +73,8 @@ fn answer_each(
     requires { (n ≤ 64) × (n ≤ length groups.now) × Tabled 64 wishes.now clashes.now carriers.now × ((λ u. get_or groups.now u 0) ≡ group_of (listed n wishes.now clashes.now)) × (entry_words * length orders.now ≤ length words.old) }
     ensures { words.new ≡ entries (order_over (listed n wishes.now clashes.now) wish_count) orders.now ++ drop (entry_words * length orders.now) words.old }
 {
-    let count = orders.len();
-    let mut i: usize = 0;
-    while i < count {
+    for (i, order) in orders.iter().enumerate() {
         let at = ENTRY_WORDS * i;
-        let order = order_at(orders, i);
         answer(
             wishes,
             clashes,
@@ -100,10 +82,9 @@ fn answer_each(
             groups,
             n,
             wish_count,
-            order,
+            *order,
             &mut words[at..],
         );
-        i += 1;
     }
 }
 
@@ -112,14 +93,12 @@ fn answer_all(job: ReadChoice, orders: &[u64], words: &mut [u64])
     requires { (job.articles ≤ 64) × (entry_words * length orders.now ≤ length words.old) }
     ensures { words.new ≡ entries (order_over (network_in job) job.wish_count) orders.now ++ drop (entry_words * length orders.now) words.old }
 {
-    let wishes = job.wishes;
-    let stated = job.clashes;
-    let clashes = tables::both_ways(&stated);
-    let carriers = table::transposed(&wishes);
+    let clashes = tables::both_ways(&job.clashes);
+    let carriers = table::transposed(&job.wishes);
     let mut groups: [u8; ArticleSet::CAPACITY] = [0; ArticleSet::CAPACITY];
     partition::partition(&clashes, job.articles, &mut groups);
     answer_each(
-        &wishes,
+        &job.wishes,
         &clashes,
         &carriers,
         &groups,
@@ -132,19 +111,11 @@ fn answer_all(job: ReadChoice, orders: &[u64], words: &mut [u64])
 
 // An entry for each order, as if it were the order of the file. The file is tested first, then the
 // buffer: no product is made for that, since it could wrap.
-pub fn fair(file: &[u8], orders: &[u64], words: &mut [u64]) -> FairAnswer
+pub fn fair(file: &[u8], orders: &[u64], words: &mut [u64]) -> Result<(), Refusal>
     ensures { record { answer = fair_told result; buffer = words.new } ≡ fair_of file.now orders.now words.old }
 {
-    let read = jobfile::read_choice(file);
-    let verdict = read.verdict;
-    if let Verdict::Refused(refusal) = verdict {
-        return FairAnswer::Refused(refusal);
-    }
-    let room = words.len() / ENTRY_WORDS;
-    let tested = arguments::room(room, orders.len());
-    if let Verdict::Refused(refusal) = tested {
-        return FairAnswer::Refused(refusal);
-    }
+    let read = jobfile::read_choice(file)?;
+    arguments::room(words.len() / ENTRY_WORDS, orders.len())?;
     answer_all(read, orders, words);
-    FairAnswer::Done
+    Ok(())
 }

@@ -1,9 +1,8 @@
 -- What the code's types mean.
-use Rattle.std.proofs.Math.Option.{Option, none, some}
-use Rattle.std.specs.Prelude.{ℕ}
-use Rattle.filter.specs.declared.goals.Goals.{Goals}
+use Rattle.std.specs.Prelude.{Option, ℕ}
+use Rattle.std.proofs.Math.Option as maybe
+use Rattle.sets.specs.Handed.{handed_by}
 
 -- reason 13 by its place, or none
-abbrev pub goals_by : Option ℕ → Goals
-goals_by none = Goals.Right
-goals_by (some i) = Goals.Bad i
+abbrev pub goals_by : maybe.Option ℕ → Option ℕ
+goals_by place = handed_by place

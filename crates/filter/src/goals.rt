@@ -6,13 +6,6 @@ ghost use Rattle.filter.specs.Meaning.{goals_by};
 
 use sets::word;
 
-// Whether all goals are in order.
-#[derive(Clone, Copy)]
-pub enum Goals {
-    Right,
-    Bad(usize),
-}
-
 // Whether the live set has an article that the file lacks.
 pub fn outside(live: u64, n: usize) -> bool
     ensures { result ≡ outside n live }
@@ -30,19 +23,9 @@ pub fn bad_goal(order: u64, goal: u64) -> bool
     word::without(goal, order) != 0
 }
 
-// The first goal of a list that is empty or not within the order.
-pub fn first_bad(order: u64, goals: &[u64]) -> Goals
+// The first goal of a list that is empty or not within the order, if any is.
+pub fn first_bad(order: u64, goals: &[u64]) -> Option<usize>
     ensures { result ≡ goals_by (first_bad order goals.now) }
 {
-    let n = goals.len();
-    let mut left = n;
-    while 0 < left {
-        let i = n - left;
-        let goal = goals[i];
-        if bad_goal(order, goal) {
-            return Goals::Bad(i);
-        }
-        left -= 1;
-    }
-    Goals::Right
+    goals.iter().position(|goal| bad_goal(order, *goal))
 }

@@ -1,7 +1,7 @@
 // The projection filter on words, and what is lent to it.
 #![tactic(auto)]
 
-ghost use Rattle.std.specs.Prelude.{◌≡◌, ◌&&◌, [], ℕ, ◌+◌, ◌≤◌, ◌<◌, max, leb, length, get_or};
+ghost use Rattle.std.specs.Prelude.{◌≡◌, ◌&&◌, [], ℕ, ◌+◌, ◌≤◌, ◌<◌, leb, length, get_or};
 ghost use Rattle.std.specs.Int.Bits.{bit_and};
 ghost use Rattle.sets.specs.Ranges.{given, sum_to, list_to};
 ghost use Rattle.sets.specs.Sets.{member, without, count};
@@ -15,16 +15,6 @@ use sets::word;
 
 // The most groups: as many as there may be articles.
 const GROUPS: usize = 64;
-
-// The larger of two words.
-fn larger(a: u64, b: u64) -> u64
-    ensures { result ≡ max a b }
-{
-    if a < b {
-        return b;
-    }
-    a
-}
 
 // How many wishes of the goal article u carries; none if it is not live.
 fn carried(wishes: &[u64; 64], u: usize, live: u64, goal: u64) -> u64
@@ -43,12 +33,10 @@ fn contributions(wishes: &[u64; 64], groups: &[u8], n: usize, live: u64, goal: u
     ensures { result ≡ list_to 64 (λ j. contribution (listed n wishes.now []) (λ u. get_or groups.now u 0) live goal j) }
 {
     let mut best: [u64; 64] = [0; 64];
-    let mut u: usize = 0;
-    while u < n {
+    for u in 0..n {
         let j = groups[u] as usize;
         let x = carried(wishes, u, live, goal);
-        best[j] = larger(best[j], x);
-        u += 1;
+        best[j] = u64::max(best[j], x);
     }
     best
 }
@@ -60,10 +48,8 @@ fn sum(best: &[u64; 64]) -> u64
     ensures upper_bound { result ≤ 4096 }
 {
     let mut all: u64 = 0;
-    let mut j: usize = 0;
-    while j < GROUPS {
-        all = all + best[j];
-        j += 1;
+    for j in 0..GROUPS {
+        all += best[j];
     }
     all
 }
@@ -106,13 +92,11 @@ pub fn pass(wishes: &[u64; 64], groups: &[u8], n: usize, live: u64, goal: u64) -
     let all = sum(&best);
     let want = word::count(goal) as u64;
     let mut kept: u64 = 0;
-    let mut v: usize = 0;
-    while v < n {
+    for v in 0..n {
         let j = groups[v] as usize;
         let rest = all - best[j];
         let staying = stays(wishes, v, live, goal, want, rest);
         kept = word::more_if(kept, v, staying);
-        v += 1;
     }
     Passed {
         live: kept,

@@ -6,14 +6,6 @@ ghost use Rattle.filter.specs.Filter.{first_short, live_before};
 
 use sets::word;
 
-// Goal i of the list.
-fn goal_at(goals: &[u64], i: usize) -> u64
-    requires { i < length goals.now }
-    ensures { result ≡ get_or goals.now i 0 }
-{
-    goals[i]
-}
-
 // How far the passes come: to the first goal that falls short, or to the end of the list; and what is
 // live there.
 #[derive(Clone, Copy)]
@@ -30,15 +22,15 @@ pub fn pass_each(wishes: &[u64; 64], groups: &[u8], n: usize, goals: &[u64]) -> 
 {
     let all = word::full(n);
     let mut live = all;
-    let mut i: usize = 0;
-    while i < goals.len() {
-        let goal = goal_at(goals, i);
+    for (i, &goal) in goals.iter().enumerate() {
         let passed = crate::pass(wishes, groups, n, live, goal);
         if passed.sum < word::count(goal) as u64 {
             return Reached { live, short: i };
         }
         live = passed.live;
-        i += 1;
     }
-    Reached { live, short: i }
+    Reached {
+        live,
+        short: goals.len(),
+    }
 }

@@ -1,5 +1,5 @@
 -- Reading records one by one into columns: what a loop has read, in front of what is left to read. Assumes nothing.
-use mathlib.Core.Path.{◌≡◌, refl, ap, sym, ◌∙◌, subst}
+use mathlib.Core.Path.{◌≡◌, refl, ap, sym, ◌∙◌}
 use mathlib.Core.Logic.{◌≢◌}
 use mathlib.Core.List.{List, [], ◌∷◌, ◌++◌, append_assoc, append-nil}
 use Prim.Native.Nat.{ℕ, suc, ◌+◌, ◌-◌, ◌≤◌, ◌<◌, zero-le}
@@ -11,8 +11,9 @@ use lib.Seq.{get_or-set_same, get_or-set_other}
 use Rattle.sets.specs.Ranges.{list_to}
 use Rattle.sets.proofs.Ranges.{list-cong, list-turn, zeros}
 use Rattle.sets.proofs.Filled.{past-turn}
+use Rattle.std.specs.Prelude.{Ok, Err}
+use Rattle.reading.specs.declared.Refusal.{Refusal}
 use Rattle.reading.specs.declared.Spot.{Spot}
-use Rattle.reading.specs.declared.item.Cursor.{Cursor}
 use Rattle.jobfile.specs.declared.records.Kind.{Kind}
 use Rattle.jobfile.specs.declared.records.ReadRecord.{ReadRecord}
 use Rattle.jobfile.specs.declared.records.Records.{Records}
@@ -20,9 +21,8 @@ use Rattle.reading.specs.Got.{Got, got, refused, Reader, and_then, each_at, up_f
 use Rattle.reading.specs.Items.{spots}
 use Rattle.jobfile.specs.Job.{Record}
 use Rattle.jobfile.specs.Read.{record_at}
-use Rattle.reading.specs.Meaning.{read_from}
-use Rattle.jobfile.specs.Meaning.{layout_by, sets_by, amounts_by, record_of, record_from, records_of, NamesWithin, Column, Columns}
-use Rattle.reading.proofs.StepLaws.{and_assoc, settled, advance}
+use Rattle.jobfile.specs.Meaning.{layout_by, sets_by, amounts_by, record_of, record_from, records_of, Column, Columns}
+use Rattle.reading.proofs.StepLaws.{and_assoc}
 
 -- ---- columns
 
@@ -42,117 +42,113 @@ consed : {A : Type 0} (done : List A) (x : A) (r : Got (List A)) → prepended d
 consed done x (refused reason place) = refl
 consed done x (got xs b) = ap (λ l. got l b) (sym (append_assoc done (x ∷ []) xs))
 
-same_from : {A : Type 0} (c : Cursor) (g h : ℕ → Got A) → ((n : ℕ) → g n ≡ h n) → read_from c g ≡ read_from c h
-same_from (Cursor.At n) g h e = e n
-same_from (Cursor.Refused r) g h e = refl
-
-module _ (f : List ℕ) (kind : Kind) (count n : ℕ) (from : Cursor) where
+module _ (f : List ℕ) (kind : Kind) (count n at : ℕ) where
   abbrev pub item : ℕ → Reader (Record Spot)
   item = record_at spots (layout_by kind) count
 
   -- the records from i on, after those that the columns hold
   abbrev pub rest : ℕ → List (Record Spot) → ℕ → Got (List (Record Spot))
-  rest i done at = prepended done (each_at item (up_from (n - i) i) f at)
+  rest i done next = prepended done (each_at item (up_from (n - i) i) f next)
+
+  -- the records that are in the columns
+  abbrev pub held_upto : Records → ℕ → List (Record Spot)
+  held_upto r i = list_to i (record_from kind r.first r.second r.third r.starts r.lens)
 
   -- the loop's invariant, when it is about to read record i
-  pub record ColumnsFilled (first second third starts lens : List ℕ) (next : Cursor) (i : ℕ) : Type 0 where
-    pub upto : i ≤ n
-    pub read : read_from from (each_at item (up_from n 0) f) ≡ read_from next (rest i (list_to i (record_from kind first second third starts lens)))
-    pub firsts : Column i first
-    pub seconds : Column i second
-    pub thirds : Column i third
-    pub starting : Column i starts
-    pub lengths : Column i lens
-    pub within : NamesWithin (length f) starts lens
+  pub record ColumnsFilled (r : Records) (i : ℕ) : Type 0 where
+    pub read : each_at item (up_from n 0) f at ≡ rest i (held_upto r i) r.next
+    pub columns : Columns i (length f) r
 
-  pub records-start : let zeros = replicate {A = ℕ} 64 0 in ColumnsFilled zeros zeros zeros zeros zeros from 0
+  pub records-start : let zeros = replicate {A = ℕ} 64 0 in ColumnsFilled (record { first = zeros; second = zeros; third = zeros; starts = zeros; lens = zeros; next = at }) 0
   unfolding list_to
   records-start = record {
-    upto = zero-le;
-    read = same_from from (each_at item (up_from n 0) f) (rest 0 []) (λ at. let e : n ≡ n - 0 = omega arith in ap (λ (k : ℕ). each_at item (up_from k 0) f at) e ∙ whole (each_at item (up_from (n - 0) 0) f at));
-    firsts = column-none;
-    seconds = column-none;
-    thirds = column-none;
-    starting = column-none;
-    lengths = column-none;
-    within = λ j. omega (arith, column-none.past j zero-le);
+    read = let e : n ≡ n - 0 = omega arith in ap (λ (k : ℕ). each_at item (up_from k 0) f at) e ∙ whole (each_at item (up_from (n - 0) 0) f at);
+    columns = record { first = column-none; second = column-none; third = column-none; starts = column-none; lens = column-none; within = λ j. omega (arith, column-none.past j zero-le) };
   }
     where
       whole : (r : Got (List (Record Spot))) → r ≡ prepended [] r
       whole (refused reason place) = refl
       whole (got xs b) = refl
 
-  pub records-turn : (first second third starts lens : List ℕ) (next : Cursor) (i : ℕ) (r : ReadRecord) → ColumnsFilled first second third starts lens next i → i < n → n ≤ 64
-      → record_of kind r ≡ read_from next (record_at spots (layout_by kind) count i f) → r.spot.start + r.spot.len ≤ length f
-      → ColumnsFilled (set first i r.first) (set second i r.second) (set third i r.third) (set starts i r.spot.start) (set lens i r.spot.len) r.next (i + 1)
+  module _ (old : Records) (i : ℕ) (so : ColumnsFilled old i) (l : i < n) where
+    split : rest i (held_upto old i) old.next ≡ and_then (item i f old.next) (λ x a. prepended (held_upto old i) (and_then (each_at item (up_from (n - (i + 1)) (suc i)) f a) λ xs b. got (x ∷ xs) b))
+    unfolding each_at up_from
+    split =
+        let k : n - i ≡ suc (n - (i + 1)) = omega arith in
+        ap (λ (m : ℕ). prepended (held_upto old i) (each_at item (up_from m i) f old.next)) k ∙ and_assoc (item i f old.next) _ _
+
+    -- record i is refused, and so are the records
+    pub records-refused : {e : Refusal} → record_of kind (Err e) ≡ item i f old.next → records_of kind n (Err e) ≡ each_at item (up_from n 0) f at
+    records-refused {e} q = sym (so.read ∙ split ∙ ap (λ x. and_then x (λ x a. prepended (held_upto old i) (and_then (each_at item (up_from (n - (i + 1)) (suc i)) f a) λ xs b. got (x ∷ xs) b))) (sym q))
+
+    -- record i is read into the columns
+    pub records-turn : (r : ReadRecord) → n ≤ 64 → record_of kind (Ok r) ≡ item i f old.next → r.spot.start + r.spot.len ≤ length f
+        → ColumnsFilled (record {
+          first = set old.first i r.first;
+          second = set old.second i r.second;
+          third = set old.third i r.third;
+          starts = set old.starts i r.spot.start;
+          lens = set old.lens i r.spot.len;
+          next = r.next;
+        }) (i + 1)
+    records-turn r room e t = record {
+      read = so.read ∙ split ∙ ap (λ x. and_then x (λ x a. prepended (held_upto old i) (and_then (each_at item (up_from (n - (i + 1)) (suc i)) f a) λ xs b. got (x ∷ xs) b))) (sym e) ∙ consed (held_upto old i) y (each_at item (up_from (n - (i + 1)) (suc i)) f r.next) ∙ onward;
+      columns = record {
+        first = column-set i old.first r.first c.first;
+        second = column-set i old.second r.second c.second;
+        third = column-set i old.third r.third c.third;
+        starts = column-set i old.starts r.spot.start c.starts;
+        lens = column-set i old.lens r.spot.len c.lens;
+        within = λ j. inside-file j (ℕ_discrete j i);
+      };
+    }
+      where
+        c : Columns i (length f) old
+        c = so.columns
+
+        new : ℕ → Record Spot
+        new = record_from kind (set old.first i r.first) (set old.second i r.second) (set old.third i r.third) (set old.starts i r.spot.start) (set old.lens i r.spot.len)
+
+        y : Record Spot
+        y = record { before = sets_by kind r.first r.second r.third; name = r.spot; after = amounts_by kind r.third }
+
+        inside : (xs : List ℕ) → Column i xs → i < length xs
+        inside xs c = omega (arith, c.size)
+
+        here : new i ≡ y
+        here =
+            rw (
+              get_or-set_same old.first i r.first 0 (inside old.first c.first),
+              get_or-set_same old.second i r.second 0 (inside old.second c.second),
+              get_or-set_same old.third i r.third 0 (inside old.third c.third),
+              get_or-set_same old.starts i r.spot.start 0 (inside old.starts c.starts),
+              get_or-set_same old.lens i r.spot.len 0 (inside old.lens c.lens),
+            )
+
+        other : (j : ℕ) → j ≢ i → new j ≡ record_from kind old.first old.second old.third old.starts old.lens j
+        other j d =
+            rw (
+              get_or-set_other old.first i j r.first 0 d,
+              get_or-set_other old.second i j r.second 0 d,
+              get_or-set_other old.third i j r.third 0 d,
+              get_or-set_other old.starts i j r.spot.start 0 d,
+              get_or-set_other old.lens i j r.spot.len 0 d,
+            )
+
+        grown : held_upto old i ++ (y ∷ []) ≡ list_to (i + 1) new
+        grown =
+            sym (list-turn i new ∙ ap (λ (x : Record Spot). list_to i new ++ (x ∷ [])) here
+            ∙ ap (λ (l : List (Record Spot)). l ++ (y ∷ [])) (list-cong i new (record_from kind old.first old.second old.third old.starts old.lens) (λ j h. other j (λ q. let z : ⊥ = omega arith in z))))
+
+        onward : prepended (held_upto old i ++ (y ∷ [])) (each_at item (up_from (n - (i + 1)) (suc i)) f r.next) ≡ rest (i + 1) (list_to (i + 1) new) r.next
+        onward = rw (grown, add-one i)
+
+        inside-file : (j : ℕ) → Dec (j ≡ i) → get_or (set old.starts i r.spot.start) j 0 + get_or (set old.lens i r.spot.len) j 0 ≤ length f
+        inside-file j (yes q) =
+            rw (q, get_or-set_same old.starts i r.spot.start 0 (inside old.starts c.starts), get_or-set_same old.lens i r.spot.len 0 (inside old.lens c.lens)) t
+        inside-file j (no d) = rw (get_or-set_other old.starts i j r.spot.start 0 d, get_or-set_other old.lens i j r.spot.len 0 d) (c.within j)
+
+  -- all records are in the columns
+  pub records-end : (r : Records) → ColumnsFilled r n → records_of kind n (Ok r) ≡ each_at item (up_from n 0) f at
   unfolding each_at up_from
-  records-turn first second third starts lens next i r so l room e t = record {
-    upto = omega arith;
-    read = so.read ∙ advance y r.next next (item i f) _ (rest i old) e (λ at. split at) ∙ same_from r.next _ _ (λ at. consed old y (each_at item (up_from (n - (i + 1)) (suc i)) f at) ∙ onward at);
-    firsts = column-set i first r.first so.firsts;
-    seconds = column-set i second r.second so.seconds;
-    thirds = column-set i third r.third so.thirds;
-    starting = column-set i starts r.spot.start so.starting;
-    lengths = column-set i lens r.spot.len so.lengths;
-    within = λ j. inside-file j (ℕ_discrete j i);
-  }
-    where
-      old : List (Record Spot)
-      old = list_to i (record_from kind first second third starts lens)
-
-      new : ℕ → Record Spot
-      new = record_from kind (set first i r.first) (set second i r.second) (set third i r.third) (set starts i r.spot.start) (set lens i r.spot.len)
-
-      y : Record Spot
-      y = record { before = sets_by kind r.first r.second r.third; name = r.spot; after = amounts_by kind r.third }
-
-      inside : (xs : List ℕ) → Column i xs → i < length xs
-      inside xs c = omega (arith, c.size)
-
-      here : new i ≡ y
-      here =
-          rw (
-            get_or-set_same first i r.first 0 (inside first so.firsts),
-            get_or-set_same second i r.second 0 (inside second so.seconds),
-            get_or-set_same third i r.third 0 (inside third so.thirds),
-            get_or-set_same starts i r.spot.start 0 (inside starts so.starting),
-            get_or-set_same lens i r.spot.len 0 (inside lens so.lengths),
-          )
-
-      other : (j : ℕ) → j ≢ i → new j ≡ record_from kind first second third starts lens j
-      other j d =
-          rw (
-            get_or-set_other first i j r.first 0 d,
-            get_or-set_other second i j r.second 0 d,
-            get_or-set_other third i j r.third 0 d,
-            get_or-set_other starts i j r.spot.start 0 d,
-            get_or-set_other lens i j r.spot.len 0 d,
-          )
-
-      grown : old ++ (y ∷ []) ≡ list_to (i + 1) new
-      grown =
-          sym (list-turn i new ∙ ap (λ (x : Record Spot). list_to i new ++ (x ∷ [])) here
-          ∙ ap (λ (l : List (Record Spot)). l ++ (y ∷ [])) (list-cong i new (record_from kind first second third starts lens) (λ j h. other j (λ q. let z : ⊥ = omega arith in z))))
-
-      split : (at : ℕ) → rest i old at ≡ and_then (item i f at) (λ x a. prepended old (and_then (each_at item (up_from (n - (i + 1)) (suc i)) f a) λ xs b. got (x ∷ xs) b))
-      split at =
-          let k : n - i ≡ suc (n - (i + 1)) = omega arith in
-          ap (λ (m : ℕ). prepended old (each_at item (up_from m i) f at)) k ∙ and_assoc (item i f at) _ _
-
-      onward : (at : ℕ) → prepended (old ++ (y ∷ [])) (each_at item (up_from (n - (i + 1)) (suc i)) f at) ≡ rest (i + 1) (list_to (i + 1) new) at
-      onward at = rw (grown, add-one i)
-
-      inside-file : (j : ℕ) → Dec (j ≡ i) → get_or (set starts i r.spot.start) j 0 + get_or (set lens i r.spot.len) j 0 ≤ length f
-      inside-file j (yes q) =
-          rw (q, get_or-set_same starts i r.spot.start 0 (inside starts so.starting), get_or-set_same lens i r.spot.len 0 (inside lens so.lengths)) t
-      inside-file j (no d) = rw (get_or-set_other starts i j r.spot.start 0 d, get_or-set_other lens i j r.spot.len 0 d) (so.within j)
-
-  pub records-end : (r : Records) (i : ℕ) → ColumnsFilled r.first r.second r.third r.starts r.lens r.next i → n ≤ i
-      → (records_of kind n r ≡ read_from from (each_at (record_at spots (layout_by kind) count) (up_from n 0) f)) × Columns n (length f) r
-  unfolding each_at up_from
-  records-end r i so h =
-      let e : i ≡ n = omega (arith, so.upto) in
-      let filled : ColumnsFilled r.first r.second r.third r.starts r.lens r.next n = subst (λ (k : ℕ). ColumnsFilled r.first r.second r.third r.starts r.lens r.next k) e so in (
-        sym (filled.read ∙ same_from r.next _ (λ at. got (list_to n (record_from kind r.first r.second r.third r.starts r.lens)) at) (λ at. let k : n - n ≡ 0 = omega arith in rw k (rw append-nil)) ∙ settled _ r.next),
-        record { first = filled.firsts; second = filled.seconds; third = filled.thirds; starts = filled.starting; lens = filled.lengths; within = filled.within },
-      )
+  records-end r so = sym (so.read ∙ (let k : n - n ≡ 0 = omega arith in rw k (rw append-nil)))

@@ -5,7 +5,6 @@ pub mod RecordLaws
 pub mod FileLaws
 pub mod Theorems
 pub mod StatedLaws
-pub mod StepLaws
 pub mod ColumnLaws
 pub mod ReadLaws
 pub mod NamingLaws

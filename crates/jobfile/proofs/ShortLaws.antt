@@ -6,6 +6,8 @@ use Prim.Native.Nat.{ℕ, zero, suc, ◌≤◌}
 use native.Mathlib.Omega.{arith}
 use lib.ListN.{length, get_or, drop, length-drop}
 use lib.Seq.{length-take-le}
+use Rattle.std.specs.Prelude.{Ok}
+use Rattle.jobfile.specs.declared.ReadNames.{ReadNames}
 use Rattle.reading.specs.Got.{Got, got, refused}
 use Rattle.reading.specs.Items.{spots}
 use Rattle.jobfile.specs.Layout.{Layout, choice, fitting, kinds}
@@ -41,12 +43,12 @@ module _ (takes : ℕ → Bool) (f : List ℕ) (bytes : Bytes f) where
           (each-short ok.layout (get_or job.counts 1 0) 0 job.records ok.records i)
 
   -- a name within the file is as long as its spot says
-  pub lens-short : Few 64 (read spots takes f) → NamesWithin (length f) (names_read (read spots takes f)).starts (names_read (read spots takes f)).lens
-      → (i : ℕ) → get_or (names_read (read spots takes f)).lens i 0 ≤ 32
-  lens-short few within i =
+  pub lens-short : {r : ReadNames} → Ok r ≡ names_read (read spots takes f) → Few 64 (read spots takes f) → NamesWithin (length f) r.starts r.lens
+      → (i : ℕ) → get_or r.lens i 0 ≤ 32
+  lens-short {r} e few within i =
       omega (
         arith,
         name-short i,
-        ap length (name-at-spot f takes i ∙ ap (bytes_at f) (sym (names-spot (read spots takes f) few i))),
-        length-take-le (get_or (names_read (read spots takes f)).lens i 0) (drop (get_or (names_read (read spots takes f)).starts i 0) f) (rw (length-drop (get_or (names_read (read spots takes f)).starts i 0) f) (omega (arith, within i))),
+        ap length (name-at-spot f takes i ∙ ap (bytes_at f) (sym (names-spot (read spots takes f) e few i))),
+        length-take-le (get_or r.lens i 0) (drop (get_or r.starts i 0) f) (rw (length-drop (get_or r.starts i 0) f) (omega (arith, within i))),
       )

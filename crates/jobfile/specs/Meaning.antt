@@ -1,15 +1,14 @@
 -- What the code's types mean.
-use Rattle.std.specs.Prelude.{◌≡◌, List, [], ◌∷◌, map, ℕ, ◌+◌, ◌^◌, ◌≤◌, ◌<◌, length, get_or}
+use Rattle.std.specs.Prelude.{◌≡◌, List, [], ◌∷◌, map, ℕ, ◌+◌, ◌^◌, ◌≤◌, ◌<◌, length, get_or, Result, Ok, Err}
 use Rattle.sets.specs.Ranges.{list_to}
+use Rattle.reading.specs.declared.Refusal.{Refusal}
 use Rattle.reading.specs.declared.Spot.{Spot}
 use Rattle.jobfile.specs.declared.records.Kind.{Kind}
 use Rattle.jobfile.specs.declared.records.Kind.TheVariants.{Choice, Fitting}
 use Rattle.jobfile.specs.declared.records.ReadRecord.{ReadRecord}
 use Rattle.jobfile.specs.declared.records.Records.{Records}
 use Rattle.reading.specs.Got.{Got, got, refused}
-use Rattle.reading.specs.Meaning.{got_by}
 use Rattle.jobfile.specs.Layout.{Layout, choice, fitting}
-use Rattle.jobfile.specs.declared.Verdict.{Verdict}
 use Rattle.jobfile.specs.declared.ReadChoice.{ReadChoice}
 use Rattle.jobfile.specs.declared.ReadFitting.{ReadFitting}
 use Rattle.jobfile.specs.declared.ReadNames.{ReadNames}
@@ -33,16 +32,18 @@ abbrev pub amounts_by : Kind → ℕ → List ℕ
 amounts_by Choice c = c ∷ []
 amounts_by Fitting c = []
 
-abbrev pub record_of : Kind → ReadRecord → Got (Record Spot)
-record_of kind r = got_by (record { before = sets_by kind r.first r.second r.third; name = r.spot; after = amounts_by kind r.third }) r.next
+abbrev pub record_of : Kind → Result ReadRecord Refusal → Got (Record Spot)
+record_of kind (Ok r) = got (record { before = sets_by kind r.first r.second r.third; name = r.spot; after = amounts_by kind r.third }) r.next
+record_of kind (Err r) = refused r.reason r.place
 
 -- record i of the columns
 abbrev pub record_from : Kind → List ℕ → List ℕ → List ℕ → List ℕ → List ℕ → ℕ → Record Spot
 record_from kind first second third starts lens i =
     record { before = sets_by kind (get_or first i 0) (get_or second i 0) (get_or third i 0); name = record { start = get_or starts i 0; len = get_or lens i 0 }; after = amounts_by kind (get_or third i 0) }
 
-abbrev pub records_of : Kind → ℕ → Records → Got (List (Record Spot))
-records_of kind n r = got_by (list_to n (record_from kind r.first r.second r.third r.starts r.lens)) r.next
+abbrev pub records_of : Kind → ℕ → Result Records Refusal → Got (List (Record Spot))
+records_of kind n (Ok r) = got (list_to n (record_from kind r.first r.second r.third r.starts r.lens)) r.next
+records_of kind n (Err r) = refused r.reason r.place
 
 -- every name lies within a file of this length
 abbrev pub NamesWithin : ℕ → List ℕ → List ℕ → Type 0
@@ -73,21 +74,14 @@ starts_of records = map (λ r. r.name.start) records
 abbrev pub lens_of : List (Record Spot) → List ℕ
 lens_of records = map (λ r. r.name.len) records
 
--- a choice file as read: the job that it states, with the spots of its names, or the refusal and nothing else
-abbrev pub choice_read : Got (Job Spot) → ReadChoice
-choice_read (refused reason place) = record {
-  verdict = Verdict.Refused (record { reason = reason; place = place });
-  articles = 0;
-  wish_count = 0;
-  order = 0;
-  wishes = padded 64 [];
-  clashes = padded 64 [];
-  prices = padded 64 [];
-  starts = padded 64 [];
-  lens = padded 64 [];
-}
-choice_read (got job end) = record {
-  verdict = Verdict.Accepted;
+-- a file as read: what is made of the job that it states, or the refusal
+abbrev pub read_as : {A : Type 0} → (Job Spot → A) → Got (Job Spot) → Result A Refusal
+read_as made (refused reason place) = Err (record { reason = reason; place = place })
+read_as made (got job end) = Ok (made job)
+
+-- a choice file: its job, with the spots of its names
+abbrev pub as_choice : Job Spot → ReadChoice
+as_choice job = record {
   articles = size job;
   wish_count = wish_count job;
   order = order job;
@@ -98,22 +92,12 @@ choice_read (got job end) = record {
   lens = padded 64 (lens_of job.records);
 }
 
-abbrev pub fitting_read : Got (Job Spot) → ReadFitting
-fitting_read (refused reason place) = record {
-  verdict = Verdict.Refused (record { reason = reason; place = place });
-  steps = 0;
-  facts = 0;
-  horizon = 0;
-  start = 0;
-  goal = 0;
-  needs = padded 64 [];
-  gives = padded 64 [];
-  takes = padded 64 [];
-  starts = padded 64 [];
-  lens = padded 64 [];
-}
-fitting_read (got job end) = record {
-  verdict = Verdict.Accepted;
+abbrev pub choice_read : Got (Job Spot) → Result ReadChoice Refusal
+choice_read = read_as as_choice
+
+-- a fitting file, likewise
+abbrev pub as_fitting : Job Spot → ReadFitting
+as_fitting job = record {
   steps = size job;
   facts = fact_count job;
   horizon = horizon job;
@@ -126,10 +110,15 @@ fitting_read (got job end) = record {
   lens = padded 64 (lens_of job.records);
 }
 
+abbrev pub fitting_read : Got (Job Spot) → Result ReadFitting Refusal
+fitting_read = read_as as_fitting
+
 -- the names of a file of either kind, likewise
-abbrev pub names_read : Got (Job Spot) → ReadNames
-names_read (refused reason place) = record { verdict = Verdict.Refused (record { reason = reason; place = place }); count = 0; starts = padded 64 []; lens = padded 64 [] }
-names_read (got job end) = record { verdict = Verdict.Accepted; count = size job; starts = padded 64 (starts_of job.records); lens = padded 64 (lens_of job.records) }
+abbrev pub as_names : Job Spot → ReadNames
+as_names job = record { count = size job; starts = padded 64 (starts_of job.records); lens = padded 64 (lens_of job.records) }
+
+abbrev pub names_read : Got (Job Spot) → Result ReadNames Refusal
+names_read = read_as as_names
 
 -- as many records as are counted, and no more than a limit
 abbrev pub Few : ℕ → Got (Job Spot) → Type 0

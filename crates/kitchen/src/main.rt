@@ -32,6 +32,5 @@ fn main(rt: HostRuntime) {
     let n = read_full(&mut rt.stdin(), &mut space);
     let page = report::report(&space[..n]);
     let len = text::used(page);
-    let bytes = page.bytes;
-    let _ = rt.write_all(&bytes[..len]);
+    let _ = rt.write_all(&page.bytes[..len]);
 }

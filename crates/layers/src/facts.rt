@@ -83,10 +83,8 @@ pub fn words(
     ensures { result ≡ padded 64 (mutexes 32 facts (excluded 32 (listed_steps [] gives.now []) (layer members words.now))) }
 {
     let mut all: [u64; 64] = [0; 64];
-    let mut p: usize = 0;
-    while p < FACTS {
+    for p in 0..FACTS {
         all[p] = row(gives, turned, words, members, facts, p);
-        p += 1;
     }
     all
 }

@@ -11,8 +11,8 @@ ghost use Rattle.planning.specs.Meaning.{fitting_in};
 ghost use Rattle.layers.specs.Meaning.{layer, roomy, vertex_words};
 
 mod facts;
+mod keepers;
 mod rounds;
-mod vertices;
 
 use jobfile::ReadFitting;
 use sets::{table, word};
@@ -34,52 +34,47 @@ pub struct Layer {
     pub words: [u64; 64],
 }
 
-// What vertices need or give, from what steps do: a keeper has its own fact.
-pub fn with_keepers(steps: &[u64; 64]) -> [u64; 64]
-    ensures { result ≡ list_to 64 (vertex_words 32 true steps.now) }
-{
-    vertices::table(steps, true)
+// What each vertex needs, gives and takes.
+#[derive(Clone, Copy)]
+pub struct Vertices {
+    pub needs: [u64; 64],
+    pub gives: [u64; 64],
+    pub takes: [u64; 64],
 }
 
-// What vertices take, from what steps do: a keeper takes nothing.
-pub fn without_keepers(steps: &[u64; 64]) -> [u64; 64]
-    ensures { result ≡ list_to 64 (vertex_words 32 false steps.now) }
-{
-    vertices::table(steps, false)
-}
-
-// The round layer over a fact layer.
-pub fn round_over(
-    needs: &[u64; 64],
-    gives: &[u64; 64],
-    takes: &[u64; 64],
-    count: usize,
-    below: Layer,
-) -> Layer
-    requires count_bound { count ≤ 32 }
-    requires by_index { (v : ℕ) → v < 64 → get_or needs.now v 0 < 2 ^ 32 }
-    ensures { layer result.members result.words ≡ round_over 32 (listed_steps needs.now gives.now takes.now) (32 + count) (layer below.members below.words) }
-{
-    let words = below.words;
-    let members = rounds::standing(needs, count, below.members, &words);
-    let mutex = rounds::words(needs, gives, takes, &words, members);
-    Layer {
-        members: members,
-        words: mutex,
+impl Vertices {
+    // The vertices of a fitting file as read: a keeper needs and gives its own fact, and takes nothing.
+    pub fn of(job: ReadFitting) -> Vertices
+        ensures needs { result.needs ≡ list_to 64 (vertex_words 32 true job.needs) }
+        ensures gives { result.gives ≡ list_to 64 (vertex_words 32 true job.gives) }
+        ensures takes { result.takes ≡ list_to 64 (vertex_words 32 false job.takes) }
+    {
+        Vertices {
+            needs: keepers::table(&job.needs, true),
+            gives: keepers::table(&job.gives, true),
+            takes: keepers::table(&job.takes, false),
+        }
     }
-}
 
-// The fact layer over a round layer.
-pub fn facts_over(gives: &[u64; 64], below: Layer) -> Layer
-    ensures { layer result.members result.words ≡ roomy 64 (facts_over 32 (listed_steps [] gives.now []) (layer below.members below.words)) }
-{
-    let words = below.words;
-    let members = word::gather(gives, below.members);
-    let turned = table::transposed(gives);
-    let mutex = facts::words(gives, &turned, &words, below.members, members);
-    Layer {
-        members: members,
-        words: mutex,
+    // The round layer over a fact layer.
+    pub fn round_over(&self, count: usize, below: Layer) -> Layer
+        requires count_bound { count ≤ 32 }
+        requires by_index { (v : ℕ) → v < 64 → get_or self.now.needs v 0 < 2 ^ 32 }
+        ensures { layer result.members result.words ≡ round_over 32 (listed_steps self.now.needs self.now.gives self.now.takes) (32 + count) (layer below.members below.words) }
+    {
+        let members = rounds::standing(&self.needs, count, below.members, &below.words);
+        let words = rounds::words(self, &below.words, members);
+        Layer { members, words }
+    }
+
+    // The fact layer over a round layer.
+    pub fn facts_over(&self, below: Layer) -> Layer
+        ensures { layer result.members result.words ≡ roomy 64 (facts_over 32 (listed_steps [] self.now.gives []) (layer below.members below.words)) }
+    {
+        let members = word::gather(&self.gives, below.members);
+        let turned = table::transposed(&self.gives);
+        let words = facts::words(&self.gives, &turned, &below.words, below.members, members);
+        Layer { members, words }
     }
 }
 
@@ -88,20 +83,13 @@ pub fn fact_layer(job: ReadFitting, k: usize) -> Layer
     requires { Sized 32 (fitting_in job) }
     ensures { layer result.members result.words ≡ roomy 64 (fact_layer 32 (fitting_in job) k) }
 {
-    let a = job.needs;
-    let b = job.gives;
-    let c = job.takes;
-    let needs = with_keepers(&a);
-    let gives = with_keepers(&b);
-    let takes = without_keepers(&c);
+    let vertices = Vertices::of(job);
     let mut facts = Layer {
         members: job.start,
         words: [0; 64],
     };
-    let mut i: usize = 0;
-    while i < k {
-        facts = facts_over(&gives, round_over(&needs, &gives, &takes, job.steps, facts));
-        i += 1;
+    for _i in 0..k {
+        facts = vertices.facts_over(vertices.round_over(job.steps, facts));
     }
     facts
 }
@@ -111,11 +99,5 @@ pub fn round_layer(job: ReadFitting, k: usize) -> Layer
     requires { Sized 32 (fitting_in job) × (0 < k) }
     ensures { layer result.members result.words ≡ round_layer 32 (fitting_in job) k }
 {
-    let a = job.needs;
-    let b = job.gives;
-    let c = job.takes;
-    let needs = with_keepers(&a);
-    let gives = with_keepers(&b);
-    let takes = without_keepers(&c);
-    round_over(&needs, &gives, &takes, job.steps, fact_layer(job, k - 1))
+    Vertices::of(job).round_over(job.steps, fact_layer(job, k - 1))
 }

@@ -1,9 +1,8 @@
 -- What the code's types mean.
-use Rattle.std.proofs.Math.Option.{Option, none, some}
-use Rattle.std.specs.Prelude.{ℕ}
-use Rattle.names.specs.declared.Holder.{Holder}
+use Rattle.std.specs.Prelude.{ℕ, Option}
+use Rattle.std.proofs.Math.Option as maybe
+use Rattle.sets.specs.Handed.{handed_of}
 
 -- the number of who has a name
-abbrev pub holder_of : Holder → Option ℕ
-holder_of (Holder.Number i) = some i
-holder_of Holder.Nobody = none
+abbrev pub holder_of : Option ℕ → maybe.Option ℕ
+holder_of = handed_of

@@ -32,7 +32,7 @@ use Rattle.extraction.specs.Extraction.{all_facts, Graph, graph, Picks, needs_of
 use Rattle.planner.specs.Meaning.{planned_by}
 use Rattle.planner.specs.Planner.{Words}
 use Rattle.planner.specs.Tabulated.{round_after, Layered, Laid}
-use Rattle.planner.specs.declared.Planned.{Planned}
+use Rattle.std.specs.Prelude.{Option, Some, None}
 
 -- ---- what the search works on, and what it finds
 
@@ -47,9 +47,9 @@ pub record Tabulated (F : Fitting) (h : ℕ) (T : Graph) : Type 0 where
   pub long : 64 * h ≤ length T.words
 
 -- the fewest rounds in which a goal can be worked back, with such selections; or that this cannot be done within the horizon
-abbrev pub Searched : Graph → ℕ → ℕ → List ℕ → List ℕ → Planned → Type 0
-Searched T h g old new (Planned.Rounds k) = (k ≤ h) × Held T k g new × ((i : ℕ) → i < k → Back T i g → ⊥) × (drop k new ≡ drop k old)
-Searched T h g old new Planned.Nothing = (new ≡ old) × ((i : ℕ) → i ≤ h → Back T i g → ⊥)
+abbrev pub Searched : Graph → ℕ → ℕ → List ℕ → List ℕ → Option ℕ → Type 0
+Searched T h g old new (Some k) = (k ≤ h) × Held T k g new × ((i : ℕ) → i < k → Back T i g → ⊥) × (drop k new ≡ drop k old)
+Searched T h g old new None = (new ≡ old) × ((i : ℕ) → i ≤ h → Back T i g → ⊥)
 
 -- ---- tables
 
@@ -201,8 +201,8 @@ module _ (F : Fitting) (h : ℕ) (T : Graph) (ok : Tabulated F h T) where
   plan-back : (rs : List ℕ) → Plan F rs → length rs ≤ h → Back T (length rs) F.goal
   plan-back rs p l = reaches-back (length rs) F.goal l rs (record { rounds = p.rounds; reached = p.reached; many = refl })
 
-  pub solved-count : (old new : List ℕ) (r : Planned) → Searched T h F.goal old new r → r ≡ planned_by (fewest F h)
-  solved-count old new (Planned.Rounds k) (l, held, fewer, keep) = sym (ap planned_by (some-fewest F h k l plan (λ rs p. least rs p (dec_le k (length rs)))))
+  pub solved-count : (old new : List ℕ) (r : Option ℕ) → Searched T h F.goal old new r → r ≡ planned_by (fewest F h)
+  solved-count old new (Some k) (l, held, fewer, keep) = sym (ap planned_by (some-fewest F h k l plan (λ rs p. least rs p (dec_le k (length rs)))))
     where
       plan : PlanOf F k
       plan =
@@ -212,13 +212,13 @@ module _ (F : Fitting) (h : ℕ) (T : Graph) (ok : Tabulated F h T) where
       least : (rs : List ℕ) → Plan F rs → Dec (k ≤ length rs) → k ≤ length rs
       least rs p (yes m) = m
       least rs p (no m) = absurd (fewer (length rs) (omega arith) (plan-back rs p (omega arith)))
-  solved-count old new Planned.Nothing (same, none) = sym (ap planned_by (none-fewest F h (λ rs p l. none (length rs) l (plan-back rs p l))))
+  solved-count old new None (same, none) = sym (ap planned_by (none-fewest F h (λ rs p l. none (length rs) l (plan-back rs p l))))
 
-  pub solved-words : (old new : List ℕ) (r : Planned) → Searched T h F.goal old new r → h ≤ length new → Words F old new r
-  solved-words old new (Planned.Rounds k) (l, held, fewer, keep) m =
+  pub solved-words : (old new : List ℕ) (r : Option ℕ) → Searched T h F.goal old new r → h ≤ length new → Words F old new r
+  solved-words old new (Some k) (l, held, fewer, keep) m =
       let r = held-reaches k F.goal new l (omega arith) held in
       (record { rounds = r.rounds; reached = r.reached }, keep)
-  solved-words old new Planned.Nothing (same, none) m = same
+  solved-words old new None (same, none) m = same
 
 -- ---- the tables that the code makes: arrays, of which the front is lent
 

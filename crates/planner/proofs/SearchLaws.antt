@@ -1,22 +1,28 @@
 -- The laws of the search over the count of rounds: the words of a plan are copied, and counts are refuted one by one. Assumes nothing.
 use mathlib.Core.Path.{◌≡◌, ap, ◌∙◌}
-use mathlib.Core.List.{List}
+use mathlib.Core.List.{List, ◌++◌}
 use Prim.Native.Nat.{ℕ, zero, suc, ◌+◌, ◌≤◌, ◌<◌}
-use native.Mathlib.Nat.{zero-add}
 use native.Mathlib.Omega.{arith}
-use lib.ListN.{length, get_or, take, drop, get_or-append}
-use lib.Seq.{length-take-le, get_or-take, drop_at, paste}
+use lib.ListN.{length, get_or, take, drop, get_or-append, length-append, length-drop}
+use lib.Seq.{length-take-le, get_or-take, drop_at}
 use Rattle.sets.proofs.Ranges.{one_more}
 use Rattle.extraction.specs.Extraction.{all_facts, Graph, needs_of, Back, Held, Fine, Refutes}
 use Rattle.extraction.proofs.ExtractLaws.{back-part, refutes-whole}
 use Rattle.planner.specs.Tabulated.{Copied}
 
 -- a copy to the front: the words there are copied, and the later ones stay as they are
-pub copied-front : (k : ℕ) (words old new : List ℕ) → k ≤ length words → new ≡ paste old 0 words k → Copied k words old new
-copied-front k words old new room e = (
-  λ i l. ap (λ (t : List ℕ). get_or t i 0) e ∙ get_or-append (take k words) (drop (0 + k) old) 0 i (omega (arith, length-take-le k words room)) ∙ get_or-take k words i 0 l,
-  ap (drop k) e ∙ drop_at (take k words) (drop (0 + k) old) k (length-take-le k words room) ∙ ap (λ (n : ℕ). drop n old) (zero-add k),
+pub copied-front : (k : ℕ) (words old front : List ℕ) → k ≤ length words → front ≡ take k words → Copied k words old (front ++ drop k old)
+copied-front k words old front room e = (
+  λ i l. get_or-append front (drop k old) 0 i (omega (arith, wide)) ∙ ap (λ (t : List ℕ). get_or t i 0) e ∙ get_or-take k words i 0 l,
+  drop_at front (drop k old) k wide,
 )
+  where
+    wide : length front ≡ k
+    wide = ap length e ∙ length-take-le k words room
+
+-- and there are as many as before
+pub copied-length : (k : ℕ) (words old front : List ℕ) → front ≡ take k words → k ≤ length words → k ≤ length old → length (front ++ drop k old) ≡ length old
+copied-length k words old front e room here = omega (arith, length-append front (drop k old), length-drop k old, ap length e, length-take-le k words room)
 
 module _ (T : Graph) where
   -- a plan of k rounds is in the words below k alone, so that a copy of them holds it

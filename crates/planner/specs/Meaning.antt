@@ -1,9 +1,8 @@
 -- What the code's types mean.
-use Rattle.std.proofs.Math.Option.{Option, none, some}
-use Rattle.std.specs.Prelude.{ℕ}
-use Rattle.planner.specs.declared.Planned.{Planned}
+use Rattle.std.proofs.Math.Option as maybe
+use Rattle.std.specs.Prelude.{Option, ℕ}
+use Rattle.sets.specs.Handed.{handed_by}
 
 -- the count of a plan's rounds, or that there is no plan
-abbrev pub planned_by : Option ℕ → Planned
-planned_by (some k) = Planned.Rounds k
-planned_by none = Planned.Nothing
+abbrev pub planned_by : maybe.Option ℕ → Option ℕ
+planned_by o = handed_by o

@@ -17,23 +17,13 @@ use jobfile::ReadFitting;
 // The most rounds of a plan, and so the most round layers.
 const HORIZON: usize = 16;
 
-// How many rounds a plan has, or that there is no plan.
-#[derive(Clone, Copy)]
-pub enum Planned {
-    Rounds(usize),
-    Nothing,
-}
-
-// A plan with the fewest rounds within the horizon, its rounds in the words in front; or that there is
-// none, and nothing is written. Which of the shortest plans it is, is free.
-pub fn plan(job: ReadFitting, out: &mut [u32]) -> Planned
+// A plan with the fewest rounds within the horizon: how many rounds it has, which are in the words in
+// front; or that there is none, and nothing is written. Which of the shortest plans it is, is free.
+pub fn plan(job: ReadFitting, out: &mut [u32]) -> Option<usize>
     requires { Sized 32 (fitting_in job) × (job.horizon ≤ 16) × (job.horizon ≤ length out.old) }
     ensures value { result ≡ planned_by (fewest (fitting_in job) job.horizon) }
     ensures words { Words (fitting_in job) out.old out.new result }
 {
-    let made = tabulated::round_layers(job);
-    let members = made.members;
-    let words = made.words;
-    let h = job.horizon;
-    search::shortest(job, &members[0..h], &words, out)
+    let layers = tabulated::round_layers(job);
+    search::shortest(job, &layers.members[..job.horizon], &layers.words, out)
 }

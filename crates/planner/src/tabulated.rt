@@ -7,8 +7,7 @@ ghost use Rattle.planner.specs.Tabulated.{Laid};
 
 use crate::HORIZON;
 use jobfile::ReadFitting;
-use layers::Layer;
-use sets::copy;
+use layers::{Layer, Vertices};
 use supports::ROW;
 
 // The mutex words of all round layers.
@@ -26,7 +25,7 @@ fn put(words: &mut [u64], j: usize, row: &[u64; 64])
     requires { (j < 16) × (64 * j + 64 ≤ length words.old) }
     ensures { words.new ≡ paste words.old (64 * j) row.now 64 }
 {
-    copy::words(words, ROW * j, row, ROW);
+    words[ROW * j..ROW * j + ROW].copy_from_slice(row);
 }
 
 // The round layers 1 to the horizon.
@@ -34,29 +33,18 @@ pub fn round_layers(job: ReadFitting) -> RoundLayers
     requires { Sized 32 (fitting_in job) × (job.horizon ≤ 16) }
     ensures { Laid (fitting_in job) job.horizon result.members result.words }
 {
-    let a = job.needs;
-    let b = job.gives;
-    let c = job.takes;
-    let needs = layers::with_keepers(&a);
-    let gives = layers::with_keepers(&b);
-    let takes = layers::without_keepers(&c);
+    let vertices = Vertices::of(job);
     let mut members: [u64; HORIZON] = [0; HORIZON];
     let mut words: [u64; WORDS] = [0; WORDS];
     let mut facts = Layer {
         members: job.start,
         words: [0; 64],
     };
-    let mut j: usize = 0;
-    while j < job.horizon {
-        let round = layers::round_over(&needs, &gives, &takes, job.steps, facts);
-        let row = round.words;
+    for j in 0..job.horizon {
+        let round = vertices.round_over(job.steps, facts);
         members[j] = round.members;
-        put(&mut words, j, &row);
-        facts = layers::facts_over(&gives, round);
-        j += 1;
+        put(&mut words, j, &round.words);
+        facts = vertices.facts_over(round);
     }
-    RoundLayers {
-        members: members,
-        words: words,
-    }
+    RoundLayers { members, words }
 }

@@ -1,11 +1,11 @@
 -- From what a file was read as to the fitting that it states: there is room for it, and all its sets are of facts that there are. Assumes nothing.
 use mathlib.Core.Path.{◌≡◌, refl, sym, ap, subst, ◌∙◌}
 use mathlib.Core.List.{List}
-use Prim.Native.Nat.{ℕ, ◌^◌, ◌≤◌, ◌<◌, zero-le}
+use Prim.Native.Nat.{ℕ, ◌^◌, ◌≤◌, ◌<◌}
 use native.Mathlib.Omega.{arith}
 use lib.ListN.{get_or, get_or-eq_default}
 use lib.Pow.{pow_pos}
-use Rattle.reading.specs.declared.Reason.{Reason}
+use Rattle.std.specs.Prelude.{Ok}
 use Rattle.reading.specs.declared.Spot.{Spot}
 use Rattle.reading.specs.Got.{Got, got, refused}
 use Rattle.reading.specs.Items.{spots}
@@ -13,11 +13,11 @@ use Rattle.jobfile.specs.declared.ReadFitting.{ReadFitting}
 use Rattle.jobfile.specs.Layout.{fitting}
 use Rattle.jobfile.specs.Job.{Job, column, size, fact_count, horizon, start, goal}
 use Rattle.jobfile.specs.Read.{read, read_job, fittings}
-use Rattle.jobfile.specs.Meaning.{padded, Few, FittingBounds, fitting_read}
+use Rattle.jobfile.specs.Meaning.{padded, Few, FittingBounds, as_fitting, fitting_read}
 use Rattle.jobfile.proofs.Lawful.{same-value}
 use Rattle.jobfile.proofs.FileLaws.{each_at_lem, count-bound, Body}
 use Rattle.jobfile.proofs.StatedLaws.{column-length, column-below, fitting-stated}
-use Rattle.jobfile.proofs.ReadLaws.{padded-at, nothing-there}
+use Rattle.jobfile.proofs.ReadLaws.{padded-at}
 use Rattle.jobfile.proofs.NamingLaws.{map_got, job_by, read_same, column-by}
 use Rattle.planning.specs.Rounds.{fitting_of}
 use Rattle.planning.specs.Back.{Sized}
@@ -47,7 +47,7 @@ sized-stated job ok = record {
 -- ---- the fitting that the code has
 
 -- it is that of the job: zeros after the steps change nothing, nor does what names are taken for
-fitting-same : (f : List ℕ) (job : Job Spot) (end : ℕ) → Few 32 (got job end) → fitting_in (fitting_read (got job end)) ≡ fitting_of (job_by f job)
+fitting-same : (f : List ℕ) (job : Job Spot) (end : ℕ) → Few 32 (got job end) → fitting_in (as_fitting job) ≡ fitting_of (job_by f job)
 fitting-same f job end few = λ i. record {
   count = size job;
   facts = fact_count job;
@@ -62,22 +62,9 @@ fitting-same f job end few = λ i. record {
         padded-at 64 (column k job.records) (omega (arith, column-length k job.records, few.0, few.1)) a
         ∙ ap (λ (l : List ℕ). get_or l a 0) (sym (column-by f k job.records))
 
--- if nothing was read, there is no step and no fact
-sized-none : (reason : Reason) (place : ℕ) → Sized 32 (fitting_in (fitting_read (refused reason place)))
-sized-none reason place = record {
-  few = zero-le;
-  room = zero-le;
-  start = pow_pos 0;
-  goal = pow_pos 0;
-  needs = λ a l. absurd (omega arith);
-  gives = λ a l. absurd (omega arith);
-  takes = λ a l. absurd (omega arith);
-  past = λ a l. (nothing-there a, nothing-there a, nothing-there a);
-}
-
 -- ---- what a reading is good for
 
-module _ (f : List ℕ) (r : ReadFitting) (e : r ≡ fitting_read (read spots fittings f)) (bounds : FittingBounds f r) where
+module _ (f : List ℕ) (r : ReadFitting) (e : Ok r ≡ fitting_read (read spots fittings f)) (bounds : FittingBounds f r) where
   -- the code has the fitting of the job that was read
   pub fitting-read : (job : Job (List ℕ)) (end : ℕ) → read_job fittings f ≡ got job end → fitting_in r ≡ fitting_of job
   fitting-read job end q = go (read spots fittings f) refl (sym (read_same f fittings) ∙ q)
@@ -85,14 +72,18 @@ module _ (f : List ℕ) (r : ReadFitting) (e : r ≡ fitting_read (read spots fi
       go : (g : Got (Job Spot)) → read spots fittings f ≡ g → map_got (job_by f) (read spots fittings f) ≡ got job end → fitting_in r ≡ fitting_of job
       go (refused reason place) is same = let other = ap (map_got (job_by f)) (sym is) ∙ same in let z : ◌≡◌ {A = ℕ} 0 1 = cc in absurd (omega arith)
       go (got found at) is same =
-          ap fitting_in (e ∙ ap fitting_read is) ∙ fitting-same f found at (subst (Few 32) is bounds.4) ∙ ap fitting_of (same-value (ap (map_got (job_by f)) (sym is) ∙ same))
+          let as_read : Ok r ≡ fitting_read (got found at) = e ∙ ap fitting_read is in
+          let q : r ≡ as_fitting found = cc in
+          ap fitting_in q ∙ fitting-same f found at (subst (Few 32) is bounds.4) ∙ ap fitting_of (same-value (ap (map_got (job_by f)) (sym is) ∙ same))
 
-  -- whatever was read, accepted or not, there is room for it and its sets are of facts that there are
+  -- there is room for what was read, and its sets are of facts that there are
   pub sized-read : Sized 32 (fitting_in r)
   sized-read = go (read spots fittings f) refl
     where
       go : (g : Got (Job Spot)) → read spots fittings f ≡ g → Sized 32 (fitting_in r)
-      go (refused reason place) is = subst (λ (x : ReadFitting). Sized 32 (fitting_in x)) (sym (e ∙ ap fitting_read is)) (sized-none reason place)
+      go (refused reason place) is =
+          let as_read : Ok r ≡ fitting_read (refused reason place) = e ∙ ap fitting_read is in
+          let z : ◌≡◌ {A = ℕ} 0 1 = cc in absurd (omega arith)
       go (got found at) is =
           let q : read_job fittings f ≡ got (job_by f found) at = read_same f fittings ∙ ap (map_got (job_by f)) is in
           subst (Sized 32) (sym (fitting-read (job_by f found) at q)) (sized-stated (job_by f found) (fitting-stated f bounds.5 q))

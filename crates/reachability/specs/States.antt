@@ -1,5 +1,5 @@
 -- What is promised of the list of states that steps lead to. A state is a set of facts; the first n of a list count.
-use Rattle.std.specs.Prelude.{◌≡◌, ◌≢◌, Bool, true, false, List, ℕ, ◌≤◌, ◌<◌, length, get_or}
+use Rattle.std.specs.Prelude.{◌≡◌, Bool, true, false, List, ℕ, ◌≤◌, ◌<◌, length, get_or, Option, Some, None}
 use Rattle.std.specs.Int.Bits.{bit_or}
 use Rattle.sets.specs.Sets.{◌⊆◌, without}
 use Rattle.planning.specs.Rounds.{Steps, Fitting, Plan}
@@ -30,16 +30,19 @@ pub record Grown (old new : List ℕ) (n r : ℕ) : Type 0 where
   pub room : r ≤ length new
   pub same : (j : ℕ) → j < n → get_or new j 0 ≡ get_or old j 0
 
--- ---- what the functions give: the count of states r; 0 says that there was no room, and nothing else
+-- ---- what the functions give: the count of states r; `None` says that there was no room, and nothing else
 
 -- s is listed
-abbrev pub Entered : List ℕ → List ℕ → ℕ → ℕ → ℕ → Type 0
-Entered old new n s r = r ≢ 0 → Grown old new n r × Among new r s
+abbrev pub Entered : List ℕ → List ℕ → ℕ → ℕ → Option ℕ → Type 0
+Entered old new n s (Some r) = Grown old new n r × Among new r s
+Entered old new n s None = Unit {0}
 
 -- what one step leads to is listed
-abbrev pub Tried : List ℕ → List ℕ → ℕ → ℕ → ℕ → ℕ → ℕ → ℕ → Type 0
-Tried old new n s needs gives takes r = r ≢ 0 → Grown old new n r × (needs ⊆ s → Among new r (bit_or (without s takes) gives))
+abbrev pub Tried : List ℕ → List ℕ → ℕ → ℕ → ℕ → ℕ → ℕ → Option ℕ → Type 0
+Tried old new n s needs gives takes (Some r) = Grown old new n r × (needs ⊆ s → Among new r (bit_or (without s takes) gives))
+Tried old new n s needs gives takes None = Unit {0}
 
 -- what each of the first k steps leads to from state i is listed
-abbrev pub Expanded : List ℕ → List ℕ → ℕ → ℕ → Steps → ℕ → ℕ → Type 0
-Expanded old new n i S k r = r ≢ 0 → Grown old new n r × ((a : ℕ) → a < k → Leads S new r (get_or new i 0) a)
+abbrev pub Expanded : List ℕ → List ℕ → ℕ → ℕ → Steps → ℕ → Option ℕ → Type 0
+Expanded old new n i S k (Some r) = Grown old new n r × ((a : ℕ) → a < k → Leads S new r (get_or new i 0) a)
+Expanded old new n i S k None = Unit {0}

@@ -2,7 +2,7 @@
 // states are listed one after the other, each with what its steps lead to, as long as there is room.
 #![tactic(auto)]
 
-ghost use Rattle.std.specs.Prelude.{◌≡◌, ◌≢◌, ◌≤◌, ◌<◌, length};
+ghost use Rattle.std.specs.Prelude.{◌≡◌, ◌≤◌, ◌<◌, length};
 ghost use Rattle.std.specs.Int.Bits.{bit_or};
 ghost use Rattle.sets.specs.Sets.{without};
 ghost use Rattle.planning.specs.Rounds.{listed_steps};
@@ -60,17 +60,7 @@ fn next_slot(at: usize) -> usize
     requires { at < 32768 }
     ensures { result < 32768 }
 {
-    if at == SLOTS - 1 {
-        return 0;
-    }
-    at + 1
-}
-
-// The number in a slot, as an index.
-fn wide(x: u16) -> usize
-    ensures { result ≡ x }
-{
-    x as usize
+    (at + 1) % SLOTS
 }
 
 // Looks at `PROBES` slots, from the one that `slot_of` gives on. A slot has the number of a state,
@@ -81,41 +71,37 @@ fn look_up(states: &[u64], slots: &[u16], count: usize, state: u64) -> Place
     ensures { Placed states.now (length slots.now) count state result }
 {
     let mut at = slot_of(state);
-    let mut left: usize = PROBES;
-    while 0 < left {
-        let number = wide(slots[at]);
+    for _ in 0..PROBES {
+        let number = usize::from(slots[at]);
         if number == 0 {
             return Place::Free(at);
         }
-        if number <= count {
-            if states[number - 1] == state {
-                return Place::Known;
-            }
+        if number <= count && states[number - 1] == state {
+            return Place::Known;
         }
         at = next_slot(at);
-        left -= 1;
     }
     Place::Crowded
 }
 
-// Enters a state into the list unless it is there. The answer is how many there are now, and 0 if there
-// is no room.
-fn insert(states: &mut [u64], slots: &mut [u16], count: usize, state: u64) -> usize
+// Enters a state into the list unless it is there. The answer is how many there are now, or `None` if
+// there is no room.
+fn insert(states: &mut [u64], slots: &mut [u16], count: usize, state: u64) -> Option<usize>
     requires { (count ≤ length states.old) × (length states.old ≡ 8192) × (length slots.old ≡ 32768) }
     ensures { Entered states.old states.new count state result }
 {
     let place = look_up(states, slots, count, state);
     match place {
-        Place::Known => count,
+        Place::Known => Some(count),
         Place::Free(at) => {
             if count == STATES {
-                return 0;
+                return None;
             }
             states[count] = state;
             slots[at] = (count + 1) as u16;
-            count + 1
+            Some(count + 1)
         }
-        Place::Crowded => 0,
+        Place::Crowded => None,
     }
 }
 
@@ -128,12 +114,12 @@ fn try_step(
     needs: u64,
     gives: u64,
     takes: u64,
-) -> usize
+) -> Option<usize>
     requires { (count ≤ length states.old) × (length states.old ≡ 8192) × (length slots.old ≡ 32768) }
     ensures { Tried states.old states.new count facts needs gives takes result }
 {
     if word::without(needs, facts) != 0 {
-        return count;
+        return Some(count);
     }
     insert(states, slots, count, after_step(facts, gives, takes))
 }
@@ -144,26 +130,26 @@ fn expand(
     slots: &mut [u16],
     count: usize,
     i: usize,
-    needs: &[u64; 64],
-    gives: &[u64; 64],
-    takes: &[u64; 64],
-    steps: usize,
-) -> usize
+    job: &ReadFitting,
+) -> Option<usize>
     requires count_in_bounds { (count ≤ length states.old) × (length states.old ≡ 8192) × (length slots.old ≡ 32768) }
-    requires i_lt_count { (i < count) × (steps ≤ 64) }
-    ensures { Expanded states.old states.new count i (listed_steps needs.now gives.now takes.now) steps result }
+    requires i_lt_count { (i < count) × (job.now.steps ≤ 64) }
+    ensures { Expanded states.old states.new count i (listed_steps job.now.needs job.now.gives job.now.takes) job.now.steps result }
 {
     let facts = states[i];
     let mut n = count;
-    let mut a: usize = 0;
-    while a < steps {
-        n = try_step(states, slots, n, facts, needs[a], gives[a], takes[a]);
-        if n == 0 {
-            return 0;
-        }
-        a += 1;
+    for a in 0..job.steps {
+        n = try_step(
+            states,
+            slots,
+            n,
+            facts,
+            job.needs[a],
+            job.gives[a],
+            job.takes[a],
+        )?;
     }
-    n
+    Some(n)
 }
 
 // Unsolvable by reachability: whether the states that single steps lead to show that `job` has no plan.
@@ -180,33 +166,20 @@ pub fn hopeless(job: ReadFitting) -> bool
     requires { job.steps ≤ 64 }
     ensures { Hopeless (fitting_in job) result }
 {
-    let needs = job.needs;
-    let gives = job.gives;
-    let takes = job.takes;
     let mut states: [u64; STATES] = [0; STATES];
     let mut slots: [u16; SLOTS] = [0; SLOTS];
-    let mut count = insert(&mut states, &mut slots, 0, job.start);
-    if count == 0 {
+    let Some(mut count) = insert(&mut states, &mut slots, 0, job.start) else {
         return false;
-    }
+    };
     let mut i: usize = 0;
     while i < count {
         if word::without(job.goal, states[i]) == 0 {
             return false;
         }
-        count = expand(
-            &mut states,
-            &mut slots,
-            count,
-            i,
-            &needs,
-            &gives,
-            &takes,
-            job.steps,
-        );
-        if count == 0 {
+        let Some(grown) = expand(&mut states, &mut slots, count, i, &job) else {
             return false;
-        }
+        };
+        count = grown;
         i += 1;
     }
     true

@@ -1,3 +1,3 @@
--- The laws of reading on from a cursor, and of the reasons' numbers.
+-- The laws of reading items, and of the reasons' numbers.
 pub mod StepLaws
 pub mod Reasons

@@ -1,168 +1,17 @@
--- Reading on from a cursor: what the code has found takes the place of what the definition reads there. Assumes nothing.
-use mathlib.Core.Path.{◌≡◌, refl, ap, ap₂, sym, ◌∙◌}
-use mathlib.Core.Bool.{Bool, true, false, cond}
-use mathlib.Core.List.{List, [], ◌∷◌}
+-- Reading on in another grouping, and the number that the bytes of an item spell. Assumes nothing.
+use mathlib.Core.Path.{◌≡◌, refl, ap, ◌∙◌}
+use mathlib.Core.List.{List}
 use Prim.Native.Nat.{ℕ, suc, ◌+◌, ◌-◌, ◌*◌, ◌^◌, ◌≤◌, ◌<◌}
 use native.Mathlib.Nat.{pow-suc, pow-le-pow_right}
-use native.Mathlib.Decide.{dec_le}
 use native.Mathlib.Omega.{arith}
-use lib.Dec.{ltb, eqb}
-use lib.ListN.{length, get_or}
-use borrow.Author.Tests.{le-leb, lt-leb, lt-ltb, le-ltb, ltb-false, eq-eqb, ne_eqb}
-use Rattle.sets.specs.Sets.{bit, member}
-use Rattle.reading.specs.declared.Reason.{Reason}
-use Rattle.reading.specs.declared.Reason.TheVariants.{WrongKind, EndsEarly}
-use Rattle.reading.specs.declared.Refusal.{Refusal}
-use Rattle.reading.specs.declared.Spot.{Spot}
-use Rattle.reading.specs.declared.item.Cursor.{Cursor}
-use Rattle.reading.specs.declared.item.Item.{Item}
-use Rattle.reading.specs.Got.{Got, got, refused, Reader, refuse, and_then, checked, optional, each_at}
-use Rattle.reading.specs.Items.{kind_at, value_at, number_at, length_at, name_at, spots}
-use Rattle.reading.specs.Meaning.{got_by, read_from, place_of, stopped, item_got}
+use lib.ListN.{get_or}
+use Rattle.reading.specs.Got.{Got, got, refused, and_then}
+use Rattle.reading.specs.Items.{value_at}
 
 -- the same reading in another grouping
 pub and_assoc : {A B C : Type 0} (r : Got A) (k : A → ℕ → Got B) (l : B → ℕ → Got C) → and_then (and_then r k) l ≡ and_then r (λ a n. and_then (k a n) l)
 and_assoc (refused reason place) k l = refl
 and_assoc (got a n) k l = refl
-
--- a value that is settled
-pub settled : {A : Type 0} (a : A) (c : Cursor) → read_from c (λ n. got a n) ≡ got_by a c
-settled a (Cursor.At n) = refl
-settled a (Cursor.Refused r) = refl
-
--- if the value a, with the cursor c after it, is what r reads from a cursor, the rest reads on from c
-pub advance : {A B : Type 0} (a : A) (c from : Cursor) (r : ℕ → Got A) (k : A → ℕ → Got B) (g : ℕ → Got B)
-    → got_by a c ≡ read_from from r → ((n : ℕ) → g n ≡ and_then (r n) k) → read_from from g ≡ read_from c (k a)
-advance a c (Cursor.At n) r k g e h = h n ∙ ap (λ x. and_then x k) (sym e) ∙ onward c
-  where
-    onward : (c : Cursor) → and_then (got_by a c) k ≡ read_from c (k a)
-    onward (Cursor.At m) = refl
-    onward (Cursor.Refused q) = refl
-advance a (Cursor.At m) (Cursor.Refused q) r k g e h = let z : ◌≡◌ {A = ℕ} 0 1 = cc in absurd (omega arith)
-advance {A} {B} a (Cursor.Refused p) (Cursor.Refused q) r k g e h =
-    let same : p.reason ≡ q.reason = cc in
-    let place : p.place ≡ q.place = cc in
-    rw (same, place)
-
--- so two readings join: z is what is read from there on
-pub join : {A B : Type 0} (a : A) (z : B) (c d from : Cursor) (r : ℕ → Got A) (k : A → ℕ → Got B)
-    → got_by a c ≡ read_from from r → got_by z d ≡ read_from c (k a) → got_by z d ≡ read_from from (λ n. and_then (r n) k)
-join a z c d from r k e h = h ∙ sym (advance a c from r k (λ n. and_then (r n) k) e (λ n. refl))
-
--- an item of a list, and the rest
-module _ {A B : Type 0} (item : A → Reader B) (f : List ℕ) where
-  pub each_none : (c : Cursor) → got_by [] c ≡ read_from c (each_at item [] f)
-  unfolding each_at
-  each_none c = sym (settled [] c)
-
-  pub each_more : (x : A) (xs : List A) (y : B) (ys : List B) (c d from : Cursor)
-      → got_by y c ≡ read_from from (item x f) → got_by ys d ≡ read_from c (each_at item xs f) → got_by (y ∷ ys) d ≡ read_from from (each_at item (x ∷ xs) f)
-  unfolding each_at
-  each_more x xs y ys c d from e h = join y (y ∷ ys) c d from (item x f) _ e (join ys (y ∷ ys) d d c (each_at item xs f) _ h (sym (settled (y ∷ ys) d)))
-
--- ---- tests
-
--- a test's fault turns the value down
-pub fault-stops : (v : ℕ) (c : Cursor) (reason : Reason) (place : ℕ) → got_by 0 (stopped c reason place) ≡ and_then (got_by v c) (λ v n. refuse true reason place (got v n))
-fault-stops v (Cursor.At n) reason place = refl
-fault-stops v (Cursor.Refused r) reason place = refl
-
-pub fine-goes : (v : ℕ) (c : Cursor) (reason : Reason) (place : ℕ) → got_by v c ≡ and_then (got_by v c) (λ v n. refuse false reason place (got v n))
-fine-goes v (Cursor.At n) reason place = refl
-fine-goes v (Cursor.Refused r) reason place = refl
-
--- an item that the code tests by its value is the checked item
-pub tested-is : (from : Cursor) (item r : Item) (fault : ℕ → Bool) (reason : Reason) (read : Reader ℕ) (f : List ℕ) (b : Bool) (p : ℕ)
-    → item_got item ≡ read_from from (read f) → b ≡ fault item.value → p ≡ place_of from
-    → item_got r ≡ and_then (item_got item) (λ v n. refuse b reason p (got v n))
-    → item_got r ≡ read_from from (checked fault reason read f)
-tested-is (Cursor.At at) item r fault reason read f b p e eb ep h = h ∙ rw (eb, ep) (by_value item.next) ∙ ap (λ x. and_then x (λ v n. refuse (fault v) reason at (got v n))) e
-  where
-    by_value : (c : Cursor) → and_then (got_by item.value c) (λ v n. refuse (fault item.value) reason at (got v n)) ≡ and_then (got_by item.value c) (λ v n. refuse (fault v) reason at (got v n))
-    by_value (Cursor.At n) = refl
-    by_value (Cursor.Refused q) = refl
-tested-is (Cursor.Refused q) item r fault reason read f b p e eb ep h = h ∙ ap (λ x. and_then x (λ v n. refuse b reason p (got v n))) e
-
--- a count that passes its test is at most the limit, and one that fails it is handed on as 0
-pub count-limit : (limit v : ℕ) {r : ℕ} → r ≡ cond (ltb limit v) 0 v → r ≤ limit
-count-limit limit v {r} e = go (ltb limit v) refl e
-  where
-    go : (b : Bool) → ltb limit v ≡ b → r ≡ cond b 0 v → r ≤ limit
-    go true q h = omega arith
-    go false q h = omega (arith, ltb-false limit v q)
-
--- ---- the kind, numbers and names, by what the code finds
-
-module _ (f : List ℕ) (kind : ℕ) where
-  pub kind-none : length f ≡ 0 → refused WrongKind 0 ≡ kind_at (λ k. eqb k kind) f 0
-  unfolding kind_at
-  kind-none e = rw (le-leb (length f) 0 (omega arith))
-
-  pub kind-found : (length f ≡ 0 → ⊥) → get_or f 0 0 ≡ kind → got kind 1 ≡ kind_at (λ k. eqb k kind) f 0
-  unfolding kind_at
-  kind-found d e = rw (lt-leb (length f) 0 (omega arith), e, eq-eqb kind kind refl)
-
-  pub kind-other : (length f ≡ 0 → ⊥) → (get_or f 0 0 ≡ kind → ⊥) → refused WrongKind 0 ≡ kind_at (λ k. eqb k kind) f 0
-  unfolding kind_at
-  kind-other d e = rw (lt-leb (length f) 0 (omega arith), ne_eqb (get_or f 0 0) kind e)
-
--- a reading that starts at a known position
-pub from_at : {A : Type 0} (from : Cursor) {at : ℕ} (reader : ℕ → Got A) {x : Got A} → from ≡ Cursor.At at → x ≡ reader at → x ≡ read_from from reader
-from_at from reader e h = h ∙ ap (λ c. read_from c reader) (sym e)
-
--- one that was refused hands its cursor on
-pub from-refused : {A : Type 0} (a : A) (from : Cursor) {r : Refusal} (reader : ℕ → Got A) → from ≡ Cursor.Refused r → got_by a from ≡ read_from from reader
-from-refused a from {r} reader e = ap (got_by a) e ∙ sym (ap (λ c. read_from c reader) e)
-
--- an item that is not marked is not read
-pub from-absent : {A : Type 0} (a : A) (from : Cursor) (item : Reader A) (f : List ℕ) (marked : Bool) → marked ≡ false → got_by a from ≡ read_from from (optional marked a item f)
-from-absent a from item f marked e = rw e (sym (settled a from))
-
-pub from-marked : {A : Type 0} (a : A) (from : Cursor) (item : Reader A) (f : List ℕ) (marked : Bool) {x : Got A} → marked ≡ true → x ≡ read_from from (item f) → x ≡ read_from from (optional marked a item f)
-from-marked a from item f marked e h = rw e h
-
--- a mark that the code tests by a bit
-pub marked_by : {A : Type 0} (from : Cursor) (a : A) (item : Reader A) (f : List ℕ) (m k : ℕ) {b : ℕ} {x : Got A} → b ≡ bit m k
-    → x ≡ read_from from (optional (eqb b 1) a item f) → x ≡ read_from from (optional (member m k) a item f)
-marked_by from a item f m k e h = h ∙ ap (λ (t : ℕ). read_from from (optional (eqb t 1) a item f)) e
-
--- a sum compared without making it
-pub due : (end at bytes : ℕ) → at ≤ end → ltb (end - at) bytes ≡ ltb end (at + bytes)
-due end at bytes l = go (dec_le bytes (end - at))
-  where
-    go : Dec (bytes ≤ end - at) → ltb (end - at) bytes ≡ ltb end (at + bytes)
-    go (yes h) = le-ltb (end - at) bytes h ∙ sym (le-ltb end (at + bytes) (omega arith))
-    go (no h) = lt-ltb (end - at) bytes (omega arith) ∙ sym (lt-ltb end (at + bytes) (omega arith))
-
-module _ (f : List ℕ) (at bytes : ℕ) where
-  pub number_short : ltb (length f) (at + bytes) ≡ true → refused EndsEarly (length f) ≡ number_at bytes f at
-  unfolding number_at
-  number_short h = rw h
-
-  pub number-found : {v : ℕ} → ltb (length f) (at + bytes) ≡ false → v ≡ value_at bytes f at → got v (at + bytes) ≡ number_at bytes f at
-  unfolding number_at
-  number-found h e = rw (h, e)
-
--- a name, once its length is known
-module _ (limit : ℕ) (f : List ℕ) (from : Cursor) (item : Item) (e : item_got item ≡ read_from from (length_at limit f)) where
-  letters : ℕ → Got Spot
-  letters start =
-      refuse (ltb (length f) (start + item.value)) EndsEarly (length f) (got (spots.present start item.value) (start + item.value))
-
-  after-length : read_from from (name_at spots limit f) ≡ read_from item.next letters
-  unfolding name_at letters
-  after-length = advance item.value item.next from (length_at limit f) _ (name_at spots limit f) e (λ n. refl)
-
-  pub name-refused : {r : Refusal} → item.next ≡ Cursor.Refused r → got_by spots.absent item.next ≡ read_from from (name_at spots limit f)
-  name-refused q = from-refused spots.absent item.next letters q ∙ sym after-length
-
-  pub name-short : {start : ℕ} → item.next ≡ Cursor.At start → ltb (length f) (start + item.value) ≡ true → refused EndsEarly (length f) ≡ read_from from (name_at spots limit f)
-  unfolding letters
-  name-short {start} q h = from_at item.next letters q (rw h) ∙ sym after-length
-
-  pub name-found : {start : ℕ} → item.next ≡ Cursor.At start → ltb (length f) (start + item.value) ≡ false → got (record { start = start; len = item.value }) (start + item.value) ≡ read_from from (name_at spots limit f)
-  unfolding letters
-  name-found {start} q h = from_at item.next letters q (rw h) ∙ sym after-length
 
 -- the loop of a number goes from its highest byte down: v is what the bytes from i on spell
 module _ (f : List ℕ) (at bytes i v : ℕ) where
@@ -185,6 +34,3 @@ module _ (f : List ℕ) (at bytes i v : ℕ) where
 pub value_none : (f : List ℕ) (at bytes : ℕ) → 0 ≡ value_at (bytes - bytes) f (at + bytes)
 unfolding value_at
 value_none f at bytes = ap (λ (k : ℕ). value_at k f (at + bytes)) (let e : 0 ≡ bytes - bytes = omega arith in e)
-
-pub value-all : (f : List ℕ) (at bytes i : ℕ) → i ≡ 0 → value_at (bytes - i) f (at + i) ≡ value_at bytes f at
-value-all f at bytes i e = ap₂ (λ (k p : ℕ). value_at k f p) (let a : bytes - i ≡ bytes = omega arith in a) (let a : at + i ≡ at = omega arith in a)

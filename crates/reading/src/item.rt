@@ -1,74 +1,37 @@
-// The items of a job file. A reader takes the cursor that the item before it handed on: one that is
-// refused is handed on as it is, so that the first fault ends the reading and code that reads
-// several items has no branch.
-ghost use Rattle.std.specs.Prelude.{◌≡◌, cond, ◌+◌, ◌≤◌, ◌<◌, ltb, eqb, length};
-ghost use Rattle.reading.specs.Got.{got, refuse, and_then, optional};
+// The items of a job file. A reader is given the file and a position in it. It gives what it read and
+// the position after that, or the first fault that it found.
+#![tactic(auto, unfolding(crate::specs::Items::kind_at, crate::specs::Items::number_at, crate::specs::Items::count_at, crate::specs::Items::map_at, crate::specs::Items::set_at, crate::specs::Items::field_at, crate::specs::Items::length_at, crate::specs::Items::name_at))]
+
+ghost use Rattle.std.specs.Prelude.{◌≡◌, ◌+◌, ◌≤◌, ltb, eqb, length, IfOk};
+ghost use Rattle.reading.specs.Got.{optional};
 ghost use Rattle.reading.specs.Items.{kind_at, value_at, number_at, count_at, map_at, set_at, amount_at, field_at, length_at, name_at, spots};
-ghost use Rattle.reading.specs.Meaning.{got_by, read_from, item_got, name_got, place_of, stopped, finished};
+ghost use Rattle.reading.specs.Meaning.{tested, finished, got_by, item_got, name_got};
 
 use crate::{Reason, Refusal, Spot};
 use sets::word;
 
-// Where reading is: at a position of the file, or refused.
-#[derive(Clone, Copy)]
-pub enum Cursor {
-    At(usize),
-    Refused(Refusal),
-}
-
-// A number that was read, and where reading is after it. If reading is refused, the number is 0.
+// A number that was read, and the position after it.
 #[derive(Clone, Copy)]
 pub struct Item {
     pub value: u64,
-    pub next: Cursor,
+    pub next: usize,
 }
 
 // A name that was read: where it is in the file.
 #[derive(Clone, Copy)]
 pub struct Named {
     pub spot: Spot,
-    pub next: Cursor,
+    pub next: usize,
 }
 
-// The position of a cursor, for the place of a fault.
-fn place(from: Cursor) -> usize
-    ensures { result ≡ place_of from }
+// A test that turns the file down if it found a fault.
+fn test(fault: bool, reason: Reason, place: usize) -> Result<(), Refusal>
+    ensures { result ≡ tested fault reason place }
 {
-    match from {
-        Cursor::At(at) => at,
-        Cursor::Refused(_) => 0,
+    if fault {
+        return Err(reason.at(place));
     }
-}
-
-// A fault, if reading was not refused before.
-fn stop(next: Cursor, reason: Reason, place: usize) -> Cursor
-    ensures { result ≡ stopped next reason place }
-{
-    match next {
-        Cursor::At(_) => Cursor::Refused(Refusal { reason, place }),
-        Cursor::Refused(refusal) => Cursor::Refused(refusal),
-    }
-}
-
-// An item that is refused if its test found a fault.
-fn tested(item: Item, fault: bool, reason: Reason, place: usize) -> Item
-    ensures result_value { item_got result ≡ and_then (item_got item) (λ v n. refuse fault reason place (got v n)) }
-    ensures value_value { result.value ≡ cond fault 0 item.value }
-{
-    if !fault {
-        return item;
-    }
-    let next = item.next;
-    Item {
-        value: 0,
-        next: stop(next, reason, place),
-    }
-}
-
-fn wide(x: u8) -> u64
-    ensures { (result ≡ x) × (result < 256) }
-{
-    x as u64
+    Ok(())
 }
 
 // The number that this many bytes spell, from the highest byte down.
@@ -77,10 +40,8 @@ fn value(file: &[u8], at: usize, bytes: usize) -> u64
     ensures { result ≡ value_at bytes file.now at }
 {
     let mut v: u64 = 0;
-    let mut i = bytes;
-    while 0 < i {
-        i -= 1;
-        v = v * 256 + wide(file[at + i]);
+    for i in (0..bytes).rev() {
+        v = v * 256 + u64::from(file[at + i]);
     }
     v
 }
@@ -89,178 +50,131 @@ fn value(file: &[u8], at: usize, bytes: usize) -> u64
 fn ends_early(end: usize, at: usize, due: usize) -> bool
     ensures { result ≡ ltb end (at + due) }
 {
-    if end < at {
-        return true;
-    }
-    end - at < due
+    end < at || end - at < due
 }
 
 // A number of this many bytes.
-fn number(file: &[u8], from: Cursor, bytes: usize) -> Item
+fn number(file: &[u8], at: usize, bytes: usize) -> Result<Item, Refusal>
     requires { bytes ≤ 8 }
-    ensures { item_got result ≡ read_from from (number_at bytes file.now) }
+    ensures { item_got result ≡ number_at bytes file.now at }
 {
-    let Cursor::At(at) = from else {
-        return Item {
-            value: 0,
-            next: from,
-        };
-    };
     let end = file.len();
-    if ends_early(end, at, bytes) {
-        return Item {
-            value: 0,
-            next: stop(from, Reason::EndsEarly, end),
-        };
-    }
-    Item {
+    test(ends_early(end, at, bytes), Reason::EndsEarly, end)?;
+    Ok(Item {
         value: value(file, at, bytes),
-        next: Cursor::At(at + bytes),
-    }
+        next: at + bytes,
+    })
 }
 
-// The kind of the file, which is to be this one.
-pub fn kind(file: &[u8], kind: u8) -> Cursor
+// A number of this many bytes that is not 0.
+fn present(file: &[u8], at: usize, bytes: usize) -> Result<Item, Refusal>
+    requires { bytes ≤ 8 }
+    ensures { item_got result ≡ amount_at bytes file.now at }
+{
+    let item = number(file, at, bytes)?;
+    test(item.value == 0, Reason::EmptyField, at)?;
+    Ok(item)
+}
+
+// The kind of the file, which is to be this one, and the position after it.
+pub fn kind(file: &[u8], kind: u8) -> Result<usize, Refusal>
     ensures { got_by kind result ≡ kind_at (λ k. eqb k kind) file.now 0 }
 {
-    if file.len() == 0 {
-        return stop(Cursor::At(0), Reason::WrongKind, 0);
-    }
-    if file[0] == kind {
-        return Cursor::At(1);
-    }
-    stop(Cursor::At(0), Reason::WrongKind, 0)
+    test(file.first() != Some(&kind), Reason::WrongKind, 0)?;
+    Ok(1)
 }
 
 // A count, or the horizon.
-pub fn count(file: &[u8], from: Cursor, limit: u64) -> Item
-    ensures result_value { item_got result ≡ read_from from (count_at 1 limit file.now) }
-    ensures value_le_limit { result.value ≤ limit }
+pub fn count(file: &[u8], at: usize, limit: u64) -> Result<Item, Refusal>
+    ensures result_value { item_got result ≡ count_at 1 limit file.now at }
+    ensures value_le_limit { IfOk result (λ item. item.value ≤ limit) }
 {
-    let item = number(file, from, 1);
-    let v = item.value;
-    tested(item, limit < v, Reason::OverLimit, place(from))
+    let count = number(file, at, 1)?;
+    test(limit < count.value, Reason::OverLimit, at)?;
+    Ok(count)
 }
 
 // The bit map of a record with this many fields.
-pub fn bit_map(file: &[u8], from: Cursor, fields: usize) -> Item
-    ensures { item_got result ≡ read_from from (map_at fields file.now) }
+pub fn bit_map(file: &[u8], at: usize, fields: usize) -> Result<Item, Refusal>
+    ensures { item_got result ≡ map_at fields file.now at }
 {
-    let item = number(file, from, 1);
-    let v = item.value;
-    tested(
-        item,
-        word::exceeds(v, fields),
-        Reason::ForbiddenBit,
-        place(from),
-    )
+    let map = number(file, at, 1)?;
+    test(word::exceeds(map.value, fields), Reason::ForbiddenBit, at)?;
+    Ok(map)
 }
 
 // A set whose members are below the limit.
-pub fn set(file: &[u8], from: Cursor, bytes: usize, limit: usize) -> Item
+pub fn set(file: &[u8], at: usize, bytes: usize, limit: usize) -> Result<Item, Refusal>
     requires { bytes ≤ 8 }
-    ensures { item_got result ≡ read_from from (set_at bytes limit file.now) }
+    ensures { item_got result ≡ set_at bytes limit file.now at }
 {
-    let item = number(file, from, bytes);
-    let v = item.value;
-    tested(
-        item,
-        word::exceeds(v, limit),
-        Reason::AbsentMember,
-        place(from),
-    )
+    let set = number(file, at, bytes)?;
+    test(word::exceeds(set.value, limit), Reason::AbsentMember, at)?;
+    Ok(set)
 }
 
 // Such a set as a field of a record, which is there if it is marked.
-pub fn field(file: &[u8], from: Cursor, marked: bool, bytes: usize, limit: usize) -> Item
+pub fn field(
+    file: &[u8],
+    at: usize,
+    marked: bool,
+    bytes: usize,
+    limit: usize,
+) -> Result<Item, Refusal>
     requires { bytes ≤ 8 }
-    ensures { item_got result ≡ read_from from (optional marked 0 (field_at bytes limit) file.now) }
+    ensures { item_got result ≡ optional marked 0 (field_at bytes limit) file.now at }
 {
     if !marked {
-        return Item {
-            value: 0,
-            next: from,
-        };
+        return Ok(Item { value: 0, next: at });
     }
-    let item = number(file, from, bytes);
-    let v = item.value;
-    let present = tested(item, v == 0, Reason::EmptyField, place(from));
-    let w = present.value;
-    tested(
-        present,
-        word::exceeds(w, limit),
-        Reason::AbsentMember,
-        place(from),
-    )
+    let item = present(file, at, bytes)?;
+    test(word::exceeds(item.value, limit), Reason::AbsentMember, at)?;
+    Ok(item)
 }
 
 // An amount as a field of a record, likewise.
-pub fn amount(file: &[u8], from: Cursor, marked: bool, bytes: usize) -> Item
+pub fn amount(file: &[u8], at: usize, marked: bool, bytes: usize) -> Result<Item, Refusal>
     requires { bytes ≤ 8 }
-    ensures { item_got result ≡ read_from from (optional marked 0 (amount_at bytes) file.now) }
+    ensures { item_got result ≡ optional marked 0 (amount_at bytes) file.now at }
 {
-    if !marked {
-        return Item {
-            value: 0,
-            next: from,
-        };
+    if marked {
+        return present(file, at, bytes);
     }
-    let item = number(file, from, bytes);
-    let read = item.value;
-    tested(item, read == 0, Reason::EmptyField, place(from))
+    Ok(Item { value: 0, next: at })
 }
 
 // The length of a name.
-fn name_length(file: &[u8], from: Cursor, limit: u64) -> Item
-    ensures { item_got result ≡ read_from from (length_at limit file.now) }
+fn name_length(file: &[u8], at: usize, limit: u64) -> Result<Item, Refusal>
+    ensures { item_got result ≡ length_at limit file.now at }
 {
-    let item = number(file, from, 1);
-    let len = item.value;
-    let present = tested(item, len == 0, Reason::EmptyField, place(from));
-    let seen = present.value;
-    tested(present, limit < seen, Reason::LongName, place(from))
+    let item = present(file, at, 1)?;
+    test(limit < item.value, Reason::LongName, at)?;
+    Ok(item)
 }
 
 // A name, which is there if it is marked.
-pub fn name(file: &[u8], from: Cursor, marked: bool, limit: u64) -> Named
-    ensures result_value { name_got result ≡ read_from from (optional marked spots.absent (name_at spots limit) file.now) }
-    ensures len_in_bounds { result.spot.start + result.spot.len ≤ length file.now }
+pub fn name(file: &[u8], at: usize, marked: bool, limit: u64) -> Result<Named, Refusal>
+    ensures result_value { name_got result ≡ optional marked spots.absent (name_at spots limit) file.now at }
+    ensures len_in_bounds { IfOk result (λ named. named.spot.start + named.spot.len ≤ length file.now) }
 {
-    let none = Spot { start: 0, len: 0 };
     if !marked {
-        return Named {
-            spot: none,
-            next: from,
-        };
+        let spot = Spot { start: 0, len: 0 };
+        return Ok(Named { spot, next: at });
     }
-    let item = name_length(file, from, limit);
+    let item = name_length(file, at, limit)?;
+    let start = item.next;
     let len = item.value as usize;
-    let next = item.next;
-    let Cursor::At(start) = next else {
-        return Named { spot: none, next };
-    };
     let end = file.len();
-    if ends_early(end, start, len) {
-        return Named {
-            spot: none,
-            next: stop(next, Reason::EndsEarly, end),
-        };
-    }
-    Named {
+    test(ends_early(end, start, len), Reason::EndsEarly, end)?;
+    Ok(Named {
         spot: Spot { start, len },
-        next: Cursor::At(start + len),
-    }
+        next: start + len,
+    })
 }
 
 // The end of the file: nothing may follow.
-pub fn finish(file: &[u8], from: Cursor) -> Cursor
-    ensures { result ≡ finished (length file.now) from }
+pub fn finish(file: &[u8], at: usize) -> Result<(), Refusal>
+    ensures { result ≡ finished (length file.now) at }
 {
-    let Cursor::At(at) = from else {
-        return from;
-    };
-    if at < file.len() {
-        return stop(from, Reason::TrailingBytes, at);
-    }
-    from
+    test(at < file.len(), Reason::TrailingBytes, at)
 }

@@ -7,7 +7,7 @@ ghost use Rattle.reading.specs.Reasons.{number_of};
 pub mod item;
 
 // Why a call is turned down. The rules' number of each is in specs/Reasons.antt.
-#[derive(Clone, Copy)]
+#[derive(Clone, Copy, Debug, PartialEq, Eq)]
 pub enum Reason {
     WrongKind,
     EndsEarly,
@@ -30,19 +30,21 @@ pub enum Reason {
 }
 
 // A reason, and the place that the rules give it.
-#[derive(Clone, Copy)]
+#[derive(Clone, Copy, Debug, PartialEq, Eq)]
 pub struct Refusal {
     pub reason: Reason,
     pub place: usize,
 }
 
-// A refusal by its reason and place.
-pub fn refusal_at(reason: Reason, place: usize) -> Refusal
-    ensures { result ≡ record { reason = reason; place = place } }
-{
-    Refusal {
-        reason: reason,
-        place: place,
+impl Reason {
+    // A refusal for this reason.
+    pub fn at(self, place: usize) -> Refusal
+        ensures { result ≡ record { reason = self; place = place } }
+    {
+        Refusal {
+            reason: self,
+            place,
+        }
     }
 }
 
@@ -54,27 +56,29 @@ pub struct Spot {
 }
 
 // The rules' number of a reason.
-pub fn number(reason: Reason) -> u32
-    ensures { result ≡ number_of reason }
-{
-    match reason {
-        Reason::WrongKind => 1,
-        Reason::EndsEarly => 2,
-        Reason::OverLimit => 3,
-        Reason::ForbiddenBit => 4,
-        Reason::EmptyField => 5,
-        Reason::AbsentMember => 6,
-        Reason::LongName => 7,
-        Reason::TrailingBytes => 8,
-        Reason::OutOfRange => 9,
-        Reason::ShortBuffer => 10,
-        Reason::FalsePartition => 11,
-        Reason::LiveOutsideFile => 12,
-        Reason::BadGoal => 13,
-        Reason::NoSelection => 14,
-        Reason::NoPlan => 15,
-        Reason::NameNotFound => 16,
-        Reason::HighRate => 17,
-        Reason::OrderOutsideFile => 18,
+impl From<Reason> for u32 {
+    ghost from_gives = { λ reason number. number ≡ number_of reason };
+
+    fn from(reason: Reason) -> u32 {
+        match reason {
+            Reason::WrongKind => 1,
+            Reason::EndsEarly => 2,
+            Reason::OverLimit => 3,
+            Reason::ForbiddenBit => 4,
+            Reason::EmptyField => 5,
+            Reason::AbsentMember => 6,
+            Reason::LongName => 7,
+            Reason::TrailingBytes => 8,
+            Reason::OutOfRange => 9,
+            Reason::ShortBuffer => 10,
+            Reason::FalsePartition => 11,
+            Reason::LiveOutsideFile => 12,
+            Reason::BadGoal => 13,
+            Reason::NoSelection => 14,
+            Reason::NoPlan => 15,
+            Reason::NameNotFound => 16,
+            Reason::HighRate => 17,
+            Reason::OrderOutsideFile => 18,
+        }
     }
 }

@@ -24,7 +24,8 @@ use Rattle.choice.specs.Choice.{sole_goal}
 use Rattle.planning.specs.Rounds.{fitting_of, fewest}
 use Rattle.planning.proofs.PlanLaws.{fewest-some}
 use Rattle.arguments.specs.Answers.{on_job, unless, after_tests, found_or, passed, Said, refused_by, answered, said}
-use Rattle.calls.specs.declared.PlanAnswer.{PlanAnswer}
+use Rattle.std.specs.Prelude as Prelude
+use Rattle.reading.specs.declared.Refusal.{Refusal}
 use Rattle.calls.specs.Choose.{Chosen, choose_in, choose_of}
 use Rattle.calls.specs.Offer.{offer_in, offer_of}
 use Rattle.calls.specs.Plan.{plan_in, plan_of, plan_told, Buffer}
@@ -61,7 +62,7 @@ module _ (f old new : List ℕ) {t : Bool} (h : t ≡ eqb (get_or f 0 0) 70) whe
       let other = sym h ∙ not-true t k in
       (e ∙ sym (by_kind f old other), subst (λ g. Buffer g old new (plan_of f old)) (sym (other-kind fittings f other)) same)
 
-  pub outcome-planned : {p q : PlanAnswer} → not t ≡ false → plan_told p ≡ said (plan_of f old) → Buffer (read_job fittings f) old new (plan_of f old) → p ≡ q → Promised (mapped planned (plan_told q))
+  pub outcome-planned : {p q : Prelude.Result ℕ Refusal} → not t ≡ false → plan_told p ≡ said (plan_of f old) → Buffer (read_job fittings f) old new (plan_of f old) → p ≡ q → Promised (mapped planned (plan_told q))
   outcome-planned k e made is = (ap (λ a. mapped planned (plan_told a)) (sym is) ∙ ap (mapped planned) e ∙ sym (by_kind f old (sym h ∙ not-false t k)), made)
 
 -- ---- as many words as rounds

@@ -2,12 +2,14 @@
 use Rattle.std.specs.Prelude.{◌≡◌, cond, List, ℕ, ◌≤◌, eqb, get_or}
 use Rattle.sets.specs.Ranges.{list_to}
 use Rattle.jobfile.specs.Read.{read_job, fittings}
-use Rattle.arguments.specs.Answers.{Said, refused_by, answered, said, refusal_said}
+use Rattle.arguments.specs.Answers.{Said, refused_by, answered, said, result_said}
 use Rattle.calls.specs.Choose.{Chosen}
 use Rattle.calls.specs.Offer.{offer_of}
 use Rattle.calls.specs.Plan.{plan_of, Buffer}
 use Rattle.text.specs.Text.{refused_text, chosen_text, rounds_text}
-use Rattle.report.specs.declared.OutcomeAnswer.{OutcomeAnswer}
+use Rattle.report.specs.declared.Answer as code
+use Rattle.reading.specs.declared.Refusal.{Refusal}
+use Rattle.std.specs.Prelude as Prelude
 
 -- what comes of a file: a selection with the set aside, or how many rounds a plan has
 pub data Result : Type 0 where
@@ -47,7 +49,9 @@ abbrev pub Prints : List ℕ → List ℕ → Type 0
 Prints file text = (words : List ℕ) × RoundWords file blank_words words × (text ≡ text_of (outcome_of file blank_words) words)
 
 -- what the code's outcome says
-abbrev pub outcome_told : OutcomeAnswer → Said Result
-outcome_told (OutcomeAnswer.Refused x) = refusal_said x
-outcome_told (OutcomeAnswer.Chosen s aside) = answered (selected (record { selection = s.bits; aside = aside.bits }))
-outcome_told (OutcomeAnswer.Rounds k) = answered (planned k)
+abbrev pub result_of : code.Answer → Result
+result_of (code.Answer.Chosen c) = selected (record { selection = c.selection.bits; aside = c.aside.bits })
+result_of (code.Answer.Rounds k) = planned k
+
+abbrev pub outcome_told : Prelude.Result code.Answer Refusal → Said Result
+outcome_told = result_said result_of

@@ -81,11 +81,26 @@ module _ (test : ℕ → Bool) where
           at (yes q) = ap test (sym q) ∙ t
           at (no d) = r (sym (first-miss n x t) ∙ e) j (omega arith) (omega arith)
 
+  -- what passes, while all before it fail, is what is found
+  found-from : (n x j : ℕ) → x ≤ j → j < x + n → ((i : ℕ) → i < j → test i ≡ false) → test j ≡ true → first_from test n x ≡ some j
+  found-from zero x j l k h e = absurd (omega arith)
+  found-from (suc n) x j l k h e = go (ℕ_discrete x j) (λ m. found-from n (suc x) j m (omega arith) h e)
+    where
+      go : Dec (x ≡ j) → (suc x ≤ j → first_from test n (suc x) ≡ some j) → first_from test (suc n) x ≡ some j
+      go (yes q) r = first-hit n x (ap test q ∙ e) ∙ ap (λ (i : ℕ). some i) q
+      go (no d) r = first-miss n x (h x (omega arith)) ∙ r (omega arith)
+
+  pub first_found : (n j : ℕ) → j < n → ((i : ℕ) → i < j → test i ≡ false) → test j ≡ true → some j ≡ first_from test n 0
+  first_found n j l h e = sym (found-from n 0 j (omega arith) (omega arith) h e)
+
   -- if all fail, nothing is found
   pub none_first : (n x : ℕ) → ((j : ℕ) → x ≤ j → j < x + n → test j ≡ false) → first_from test n x ≡ none
   unfolding first_from
   none_first zero x h = refl
   none_first (suc n) x h = first-miss n x (h x (omega arith) (omega arith)) ∙ none_first n (suc x) (λ j l k. h j (omega arith) (omega arith))
+
+  pub none_found : (n : ℕ) → ((i : ℕ) → i < n → test i ≡ false) → none ≡ first_from test n 0
+  none_found n h = sym (none_first n 0 (λ j l k. h j (omega arith)))
 
 -- tests that agree find the same
 pub first_cong : (test other : ℕ → Bool) (n x : ℕ) → ((i : ℕ) → i < x + n → test i ≡ other i) → first_from test n x ≡ first_from other n x

@@ -7,9 +7,5 @@ pub fn words(to: &mut [u64], at: usize, from: &[u64], n: usize)
     requires { (at + n ≤ length to.old) × (n ≤ length from.now) }
     ensures { to.new ≡ paste to.old at from.now n }
 {
-    let mut i: usize = 0;
-    while i < n {
-        to[at + i] = from[i];
-        i += 1;
-    }
+    to[at..at + n].copy_from_slice(&from[..n]);
 }

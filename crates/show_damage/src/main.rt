@@ -4,7 +4,7 @@
 
 ghost use Rattle.std.specs.Prelude.{◌<◌, length};
 
-use jobfile::Verdict;
+use reading::Refusal;
 use std::io;
 
 // The sorts of outcomes: accepted, and the reasons 1 to 8.
@@ -12,22 +12,21 @@ const SORTS: usize = 9;
 
 // One more file for a reason; 0 means accepted.
 fn add(tally: &mut [u64; SORTS], reason: usize) {
-    if reason < SORTS {
-        tally[reason] = std::num::wrapping_add_u64(tally[reason], 1);
+    if let Some(count) = tally.get_mut(reason) {
+        *count = count.wrapping_add(1);
     }
 }
 
 // What a damaged file gives, in short: `ok`, or the reason and the place.
 fn note(rt: &impl Print, file: &[u8], tally: &mut [u64; SORTS]) -> io::Result<()> {
-    let given = show_samples::verdict(file);
+    let given: Result<(), Refusal> = show_samples::verdict(file);
     match given {
-        Verdict::Accepted => {
+        Ok(()) => {
             show_print::say(rt, b" ok")?;
             add(tally, 0);
         }
-        Verdict::Refused(refusal) => {
-            let why = refusal.reason;
-            let reason = reading::number(why);
+        Err(refusal) => {
+            let reason = u32::from(refusal.reason);
             show_print::say_number(rt, b" ", reason as u64)?;
             show_print::say_number(rt, b"@", refusal.place as u64)?;
             add(tally, reason as usize);
@@ -41,11 +40,9 @@ fn flips(rt: &impl Print, file: &mut [u8], place: usize, tally: &mut [u64; SORTS
     requires { place < length file.old }
 {
     let byte = file[place];
-    let mut bit: u32 = 0;
-    while bit < 8 {
+    for bit in 0..8u32 {
         file[place] = byte ^ (1u8 << bit);
         note(rt, file, tally)?;
-        bit += 1;
     }
     file[place] = byte;
     Ok(())
@@ -54,10 +51,8 @@ fn flips(rt: &impl Print, file: &mut [u8], place: usize, tally: &mut [u64; SORTS
 fn totals(rt: &impl Print, label: &[u8], tally: &[u64; SORTS]) -> io::Result<()> {
     show_print::say(rt, label)?;
     show_print::say(rt, b" damaged, accepted and refused by 1 to 8:")?;
-    let mut reason: usize = 0;
-    while reason < SORTS {
-        show_print::say_number(rt, b" ", tally[reason])?;
-        reason += 1;
+    for count in tally {
+        show_print::say_number(rt, b" ", *count)?;
     }
     show_print::say(rt, b"\n")
 }
@@ -83,10 +78,8 @@ fn at_place(
 
 fn damage(rt: &impl Print, label: &[u8], file: &mut [u8]) -> io::Result<()> {
     let mut tally = [0u64; SORTS];
-    let mut place: usize = 0;
-    while place < file.len() {
+    for place in 0..file.len() {
         at_place(rt, label, file, place, &mut tally)?;
-        place += 1;
     }
     totals(rt, label, &tally)
 }
@@ -101,13 +94,10 @@ fn name_of(rt: &impl Print, label: &[u8], file: &[u8], i: usize) -> io::Result<(
 }
 
 fn names(rt: &impl Print, label: &[u8], file: &[u8]) -> io::Result<()> {
-    name_of(rt, label, file, 0)?;
-    name_of(rt, label, file, 1)?;
-    name_of(rt, label, file, 2)?;
-    name_of(rt, label, file, 3)?;
-    name_of(rt, label, file, 4)?;
-    name_of(rt, label, file, 64)?;
-    name_of(rt, label, file, 0x8000_0000_0000_0000)
+    for i in [0, 1, 2, 3, 4, 64, 0x8000_0000_0000_0000] {
+        name_of(rt, label, file, i)?;
+    }
+    Ok(())
 }
 
 fn main(rt: HostRuntime) -> io::Result<()> {

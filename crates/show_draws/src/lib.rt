@@ -31,16 +31,10 @@ pub struct Draw {
 pub fn take(x: u64, count: u64, n: u64) -> Draw
     requires { (0 < n) × (n ≤ 64) }
 {
-    let mut d = Draw { set: 0, x: x };
-    let mut i: u64 = 0;
-    while i < count {
-        let y = after(d.x);
-        let member = below(y, n) as usize;
-        d = Draw {
-            set: word::more(d.set, member),
-            x: y,
-        };
-        i += 1;
+    let mut d = Draw { set: 0, x };
+    for _ in 0..count {
+        d.x = after(d.x);
+        d.set = word::more(d.set, below(d.x, n) as usize);
     }
     d
 }

@@ -6,7 +6,6 @@
 
 ghost use Rattle.std.specs.Prelude.{◌≤◌};
 
-use calls::PlanAnswer;
 use reading::Refusal;
 use show_puzzles::Puzzle;
 use show_trials::{Job, Step, rounds};
@@ -14,27 +13,34 @@ use std::io;
 
 // Whether the words from one on are as they were, and the end of the line.
 fn say_kept(rt: &impl Print, words: &[u32; 16], from: usize) -> io::Result<()> {
-    if show_trials::kept(words, from) {
-        show_print::say(rt, b" kept\n")
+    let state: &[u8] = if show_trials::kept(words, from) {
+        b" kept\n"
     } else {
-        show_print::say(rt, b" changed\n")
-    }
+        b" changed\n"
+    };
+    show_print::say(rt, state)
+}
+
+// Whether the first l words are the rounds of a plan.
+fn say_holds(rt: &impl Print, job: Job, words: &[u32; 16], l: usize) -> io::Result<()> {
+    let verdict = if rounds::plan_holds(job, words, l) {
+        b" plan holds"
+    } else {
+        b" plan fails"
+    };
+    show_print::say(rt, verdict)
 }
 
 fn say_plan(rt: &impl Print, job: Job, words: &[u32; 16], l: usize) -> io::Result<()> {
     show_print::say_number(rt, b": rounds ", l as u64)?;
-    if rounds::plan_holds(job, words, l) {
-        show_print::say(rt, b", plan holds")?;
-    } else {
-        show_print::say(rt, b", plan fails")?;
-    }
+    show_print::say(rt, b",")?;
+    say_holds(rt, job, words, l)?;
     show_print::say(rt, b", other words")?;
     say_kept(rt, words, l)
 }
 
 fn say_refusal(rt: &impl Print, refusal: Refusal, words: &[u32; 16]) -> io::Result<()> {
-    let reason = refusal.reason;
-    show_print::say_number(rt, b": refused ", reading::number(reason) as u64)?;
+    show_print::say_number(rt, b": refused ", u32::from(refusal.reason) as u64)?;
     show_print::say_number(rt, b" at ", refusal.place as u64)?;
     show_print::say(rt, b", all words")?;
     say_kept(rt, words, 0)
@@ -49,12 +55,8 @@ fn say_round(rt: &impl Print, k: usize, round: u32) -> io::Result<()> {
 
 // The rounds, numbered from 1 on.
 fn say_rounds(rt: &impl Print, words: &[u32; 16], l: usize) -> io::Result<()> {
-    let mut k: usize = 0;
-    while k < 16 {
-        if k < l {
-            say_round(rt, k + 1, words[k])?;
-        }
-        k += 1;
+    for (k, round) in words[..l.min(16)].iter().enumerate() {
+        say_round(rt, k + 1, *round)?;
     }
     Ok(())
 }
@@ -67,13 +69,13 @@ fn show_with(rt: &impl Print, label: &[u8], job: Job, lent: usize, in_full: bool
     let mut words = show_trials::marked();
     let answer = show_trials::ask(job, &mut words[..lent]);
     match answer {
-        PlanAnswer::Rounds(l) => {
+        Ok(l) => {
             say_plan(rt, job, &words, l)?;
             if in_full {
                 say_rounds(rt, &words, l)?;
             }
         }
-        PlanAnswer::Refused(refusal) => say_refusal(rt, refusal, &words)?,
+        Err(refusal) => say_refusal(rt, refusal, &words)?,
     }
     Ok(())
 }
@@ -84,16 +86,16 @@ fn show(rt: &impl Print, label: &[u8], job: Job) -> io::Result<()> {
 
 // The steps of F, with a start and a goal.
 fn like_f(horizon: u8, start: u64, goal: u64) -> Job {
-    let none = Job::bare(4, horizon, start, goal);
-    let one = none.with(Step::new(1, 2, 1));
-    let two = one.with(Step::new(2, 4, 0));
-    two.with(Step::new(2, 8, 0))
+    Job::bare(4, horizon, start, goal)
+        .with(Step::new(1, 2, 1))
+        .with(Step::new(2, 4, 0))
+        .with(Step::new(2, 8, 0))
 }
 
 fn case_g() -> Job {
-    let none = Job::bare(2, 2, 0, 3);
-    let one = none.with(Step::new(0, 1, 0));
-    one.with(Step::new(0, 2, 1))
+    Job::bare(2, 2, 0, 3)
+        .with(Step::new(0, 1, 0))
+        .with(Step::new(0, 2, 1))
 }
 
 fn cases(rt: &impl Print) -> io::Result<()> {
@@ -139,8 +141,9 @@ fn lacks(rt: &impl Print) -> io::Result<()> {
 
 // Two steps that need the same, and each give a fact of the goal and take the same.
 fn pair(needs: u64, takes: u64) -> Job {
-    let one = Job::bare(3, 16, 4, 3).with(Step::new(needs, 1, takes));
-    one.with(Step::new(needs, 2, takes))
+    Job::bare(3, 16, 4, 3)
+        .with(Step::new(needs, 1, takes))
+        .with(Step::new(needs, 2, takes))
 }
 
 fn pairs(rt: &impl Print) -> io::Result<()> {
@@ -256,11 +259,9 @@ fn judge(
     words[0] = first;
     words[1] = second;
     show_print::say(rt, label)?;
-    if rounds::plan_holds(job, &words, l) {
-        show_print::say(rt, b": plan holds\n")
-    } else {
-        show_print::say(rt, b": plan fails\n")
-    }
+    show_print::say(rt, b":")?;
+    say_holds(rt, job, &words, l)?;
+    show_print::say(rt, b"\n")
 }
 
 fn judged(rt: &impl Print) -> io::Result<()> {

@@ -110,22 +110,14 @@ fn go(here: usize, there: usize, leaves: usize, enters: usize) -> Step
     }
 }
 
-// To the next of six places on a ring.
-fn robot_step(i: usize) -> Step
-    requires { i < 32 }
+// To the next of the places on a ring. Step i leaves the place of fact i; the facts from `free` on say
+// which places are free.
+fn ring_step(i: usize, places: usize, free: usize) -> Step
+    requires { (i < 32) × (0 < places) × (places ≤ 6) × (free ≤ 25) }
 {
-    let from = i % 6;
-    let to = (from + 1) % 6;
-    go(i, i / 6 * 6 + to, 24 + from, 24 + to)
-}
-
-// To the next of five places on a ring.
-fn crowd_step(i: usize) -> Step
-    requires { i < 32 }
-{
-    let from = i % 5;
-    let to = (from + 1) % 5;
-    go(i, i / 5 * 5 + to, 25 + from, 25 + to)
+    let from = i % places;
+    let to = (from + 1) % places;
+    go(i, i - from + to, free + from, free + to)
 }
 
 // The lamp after this one, on a ring of 6 or on one of 10.
@@ -171,8 +163,8 @@ fn step_of(puzzle: Puzzle, i: usize) -> Step
         Puzzle::Row => row_step(i),
         Puzzle::Tower => tower_step(i),
         Puzzle::Chinese => chinese_step(i),
-        Puzzle::Robots => robot_step(i),
-        Puzzle::Crowd => crowd_step(i),
+        Puzzle::Robots => ring_step(i, 6, 24),
+        Puzzle::Crowd => ring_step(i, 5, 25),
         Puzzle::Lamps => lamp_step(i),
     }
 }
@@ -182,10 +174,8 @@ pub fn stepped(bare: Job, puzzle: Puzzle, n: usize) -> Job
     requires { n ≤ 32 }
 {
     let mut job = bare;
-    let mut i: usize = 0;
-    while i < n {
+    for i in 0..n {
         job = job.with(step_of(puzzle, i));
-        i += 1;
     }
     job
 }

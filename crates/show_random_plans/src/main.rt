@@ -4,7 +4,6 @@
 
 ghost use Rattle.std.specs.Prelude.{◌<◌};
 
-use calls::PlanAnswer;
 use reading::Refusal;
 use sets::word;
 use show_trials::{Job, Step, WORDS, rounds};
@@ -13,11 +12,15 @@ use std::io;
 // How many jobs are drawn.
 const JOBS: usize = 300;
 
-// The sorts of answers: 0 to 5 rounds, and refused.
-const SORTS: usize = 7;
+// The counts of rounds that a plan may have: 0 to 5.
+const COUNTS: usize = 6;
 
-// The place of refused jobs in the tally.
-const REFUSED: usize = 6;
+// How many jobs were answered with a plan, by its count of rounds, and how many were refused.
+#[derive(Drop)]
+struct Tally {
+    planned: [u64; COUNTS],
+    refused: u64,
+}
 
 // A step, and where the generator is after it.
 #[derive(Clone, Copy)]
@@ -69,16 +72,13 @@ fn with_steps(bare: Job, seed: u64, steps: u64, facts: u64) -> DrawnJob
     let mut job = bare;
     let mut x = seed;
     let mut fact: u64 = 0;
-    let mut i: u64 = 0;
-    while i < steps {
+    for _ in 0..steps {
         let more = drawn_step(x, fact, facts);
-        let step = more.step;
-        job = job.with(step);
+        job = job.with(more.step);
         x = more.x;
         fact = next(fact, facts);
-        i += 1;
     }
-    DrawnJob { job: job, x: x }
+    DrawnJob { job, x }
 }
 
 // 4 to 6 steps, 5 to 7 facts, a horizon of 1 to 5. Fact 0 holds first, and up to three are the goal.
@@ -93,10 +93,10 @@ fn drawn_job(seed: u64) -> DrawnJob {
     with_steps(bare, goal.x, 4 + show_draws::below(a, 3), facts)
 }
 
-// One more job for a count of rounds, or for `REFUSED`.
-fn add(tally: &mut [u64; SORTS], count: usize) {
-    if count < SORTS {
-        tally[count] = std::num::wrapping_add_u64(tally[count], 1);
+// One more job with a plan of `l` rounds.
+fn add(planned: &mut [u64; COUNTS], l: usize) {
+    if let Some(jobs) = planned.get_mut(l) {
+        *jobs = jobs.wrapping_add(1);
     }
 }
 
@@ -109,58 +109,56 @@ fn say_kept(rt: &impl Print, words: &[u32; WORDS], from: usize) -> io::Result<()
 
 fn say_plan(rt: &impl Print, job: Job, words: &[u32; WORDS], l: usize) -> io::Result<()> {
     show_print::say_number(rt, b": ", l as u64)?;
-    if rounds::plan_holds(job, words, l) {
-        show_print::say(rt, b" holds")?;
+    let verdict = if rounds::plan_holds(job, words, l) {
+        b" holds"
     } else {
-        show_print::say(rt, b" fails")?;
-    }
+        b" fails"
+    };
+    show_print::say(rt, verdict)?;
     say_kept(rt, words, l)
 }
 
 fn say_refusal(rt: &impl Print, refusal: Refusal, words: &[u32; WORDS]) -> io::Result<()> {
-    let reason = refusal.reason;
-    show_print::say_number(rt, b": ", reading::number(reason) as u64)?;
+    show_print::say_number(rt, b": ", u32::from(refusal.reason) as u64)?;
     say_kept(rt, words, 0)
 }
 
-fn show(rt: &impl Print, number: usize, job: Job, tally: &mut [u64; SORTS]) -> io::Result<()> {
+fn show(rt: &impl Print, number: usize, job: Job, tally: &mut Tally) -> io::Result<()> {
     show_print::say_number(rt, b"", number as u64)?;
     let mut words = show_trials::marked();
     let answer = show_trials::ask(job, &mut words);
     match answer {
-        PlanAnswer::Rounds(l) => {
+        Ok(l) => {
             say_plan(rt, job, &words, l)?;
-            add(tally, l);
+            add(&mut tally.planned, l);
         }
-        PlanAnswer::Refused(refusal) => {
+        Err(refusal) => {
             say_refusal(rt, refusal, &words)?;
-            add(tally, REFUSED);
+            tally.refused = tally.refused.wrapping_add(1);
         }
     }
     Ok(())
 }
 
-fn totals(rt: &impl Print, tally: &[u64; SORTS]) -> io::Result<()> {
+fn totals(rt: &impl Print, tally: &Tally) -> io::Result<()> {
     show_print::say(rt, b"rounds 0 to 5:")?;
-    let mut count: usize = 0;
-    while count < REFUSED {
-        show_print::say_number(rt, b" ", tally[count])?;
-        count += 1;
+    for jobs in &tally.planned {
+        show_print::say_number(rt, b" ", *jobs)?;
     }
-    show_print::say_number(rt, b", refused: ", tally[REFUSED])?;
+    show_print::say_number(rt, b", refused: ", tally.refused)?;
     show_print::say(rt, b"\n")
 }
 
 fn main(rt: HostRuntime) -> io::Result<()> {
-    let mut tally = [0u64; SORTS];
+    let mut tally = Tally {
+        planned: [0; COUNTS],
+        refused: 0,
+    };
     let mut x: u64 = 88172645463325252;
-    let mut number: usize = 0;
-    while number < JOBS {
+    for number in 0..JOBS {
         let made = drawn_job(x);
-        let job = made.job;
-        show(&rt, number, job, &mut tally)?;
+        show(&rt, number, made.job, &mut tally)?;
         x = made.x;
-        number += 1;
     }
     totals(&rt, &tally)
 }

@@ -1,24 +1,21 @@
 // The files that a program damages, their first bytes, and whether a file is accepted.
 #![tactic(auto)]
 
-use jobfile::Verdict;
+use reading::Refusal;
 
 // The first n bytes of a file.
 pub fn first(file: &[u8], n: usize) -> &[u8] {
-    if n < file.len() {
-        return &file[..n];
-    }
-    file
+    &file[..n.min(file.len())]
 }
 
 // Whether a file of either kind is accepted.
-pub fn verdict(file: &[u8]) -> Verdict {
+pub fn verdict(file: &[u8]) -> Result<(), Refusal> {
     if jobfile::is_fitting(file) {
-        let read = jobfile::read_fitting(file);
-        return read.verdict;
+        jobfile::read_fitting(file)?;
+    } else {
+        jobfile::read_choice(file)?;
     }
-    let read = jobfile::read_choice(file);
-    read.verdict
+    Ok(())
 }
 
 // Case A of the rules.

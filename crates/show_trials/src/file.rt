@@ -17,10 +17,7 @@ pub struct File {
 fn set(bytes: &mut [u8; LONGEST], at: usize, s: u64)
     requires { at + 4 ≤ 428 }
 {
-    bytes[at] = (s % 256) as u8;
-    bytes[at + 1] = (s / 256 % 256) as u8;
-    bytes[at + 2] = (s / 65536 % 256) as u8;
-    bytes[at + 3] = (s / 16777216 % 256) as u8;
+    bytes[at..at + 4].copy_from_slice(&s.to_le_bytes()[..4]);
 }
 
 // The bit of a field, if the field is there; else 0.
@@ -58,10 +55,7 @@ fn record(bytes: &mut [u8; LONGEST], at: usize, needs: u64, gives: u64, takes: u
 fn count(steps: u8) -> usize
     ensures { result ≤ 32 }
 {
-    if STEPS < steps {
-        return STEPS as usize;
-    }
-    steps as usize
+    usize::from(steps.min(STEPS))
 }
 
 pub fn written(job: Job) -> File
@@ -79,13 +73,8 @@ pub fn written(job: Job) -> File
     set(&mut bytes, 4, job.start);
     set(&mut bytes, 8, job.goal);
     let mut at: usize = 12;
-    let mut i: usize = 0;
-    while i < n {
+    for i in 0..n {
         at = record(&mut bytes, at, needs[i], gives[i], takes[i]);
-        i += 1;
     }
-    File {
-        bytes: bytes,
-        len: at,
-    }
+    File { bytes, len: at }
 }

@@ -5,7 +5,7 @@
 mod file;
 pub mod rounds;
 
-use calls::PlanAnswer;
+use reading::Refusal;
 
 // What every word holds that is not written.
 const MARK: u32 = 7;
@@ -27,9 +27,9 @@ pub struct Step {
 impl Step {
     pub fn new(needs: u64, gives: u64, takes: u64) -> Step {
         Step {
-            needs: needs,
-            gives: gives,
-            takes: takes,
+            needs,
+            gives,
+            takes,
         }
     }
 }
@@ -52,10 +52,10 @@ impl Job {
     pub fn bare(facts: u8, horizon: u8, start: u64, goal: u64) -> Job {
         Job {
             steps: 0,
-            facts: facts,
-            horizon: horizon,
-            start: start,
-            goal: goal,
+            facts,
+            horizon,
+            start,
+            goal,
             needs: [0; 64],
             gives: [0; 64],
             takes: [0; 64],
@@ -64,36 +64,23 @@ impl Job {
 
     // The job with one step more; the 33rd is left out.
     pub fn with(self, step: Step) -> Job {
-        let n = self.steps;
-        if STEPS <= n {
+        if STEPS <= self.steps {
             return self;
         }
-        let i = n as usize;
-        let mut needs = self.needs;
-        let mut gives = self.gives;
-        let mut takes = self.takes;
-        needs[i] = step.needs;
-        gives[i] = step.gives;
-        takes[i] = step.takes;
-        Job {
-            steps: n + 1,
-            facts: self.facts,
-            horizon: self.horizon,
-            start: self.start,
-            goal: self.goal,
-            needs: needs,
-            gives: gives,
-            takes: takes,
-        }
+        let i = usize::from(self.steps);
+        let mut job = self;
+        job.steps += 1;
+        job.needs[i] = step.needs;
+        job.gives[i] = step.gives;
+        job.takes[i] = step.takes;
+        job
     }
 }
 
 // What the planner answers to the file of a job.
-pub fn ask(job: Job, words: &mut [u32]) -> PlanAnswer {
+pub fn ask(job: Job, words: &mut [u32]) -> Result<usize, Refusal> {
     let file = file::written(job);
-    let bytes = file.bytes;
-    let n = file.len;
-    calls::plan(&bytes[..n], words)
+    calls::plan(&file.bytes[..file.len], words)
 }
 
 // Words that hold the mark.
@@ -103,12 +90,5 @@ pub fn marked() -> [u32; WORDS] {
 
 // Whether the words from one on hold the mark.
 pub fn kept(words: &[u32; WORDS], from: usize) -> bool {
-    let mut i: usize = from;
-    while i < WORDS {
-        if words[i] != MARK {
-            return false;
-        }
-        i += 1;
-    }
-    true
+    words.iter().skip(from).all(|word| *word == MARK)
 }

@@ -31,43 +31,29 @@ fn may_follow(job: Job, round: u64, facts: u64) -> bool {
     if (round >> (job.steps % 64)) != 0 {
         return false;
     }
-    let needs = job.needs;
-    if word::without(word::gather(&needs, round), facts) != 0 {
+    if word::without(word::gather(&job.needs, round), facts) != 0 {
         return false;
     }
-    let gives = job.gives;
-    let takes = job.takes;
-    undisturbed(&needs, &gives, &takes, round)
+    undisturbed(&job.needs, &job.gives, &job.takes, round)
 }
 
 // The facts after a round.
 fn facts_after(job: Job, round: u64, facts: u64) -> u64 {
-    let gives = job.gives;
-    let takes = job.takes;
-    word::without(facts, word::gather(&takes, round)) | word::gather(&gives, round)
-}
-
-fn wide(x: u32) -> u64 {
-    x as u64
+    word::without(facts, word::gather(&job.takes, round)) | word::gather(&job.gives, round)
 }
 
 // Whether the first l words are the rounds of a plan within the horizon.
 pub fn plan_holds(job: Job, words: &[u32; WORDS], l: usize) -> bool {
-    if WORDS < l {
-        return false;
-    }
-    if (job.horizon as usize) < l {
+    if WORDS < l || usize::from(job.horizon) < l {
         return false;
     }
     let mut facts = job.start;
-    let mut k: usize = 0;
-    while k < l {
-        let round = wide(words[k]);
+    for word in &words[..l] {
+        let round = u64::from(*word);
         if !may_follow(job, round, facts) {
             return false;
         }
         facts = facts_after(job, round, facts);
-        k += 1;
     }
     word::without(job.goal, facts) == 0
 }

@@ -1,26 +1,25 @@
--- What is asked of one round layer: which vertices the facts open, its mutex words, and the facts that no selection covers. Assumes nothing.
+-- What is asked of one round layer: which vertices the facts open, and the facts that no selection covers. Assumes nothing.
 use mathlib.Core.Path.{◌≡◌, refl, sym, ap, subst, ◌∙◌}
 use mathlib.Core.Logic.{⊎_elim}
 use mathlib.Core.Bool.{Bool, true, false, true≢false}
-use mathlib.Core.List.{List, append-nil}
+use mathlib.Core.List.{List}
 use mathlib.Core.Option.{Option, none, some}
-use Prim.Native.Nat.{ℕ, ◌+◌, ◌-◌, ◌*◌, ◌^◌, ◌≤◌, ◌<◌, zero-le}
+use Rattle.std.specs.Prelude as code
+use Prim.Native.Nat.{ℕ, ◌^◌, ◌<◌, zero-le}
 use native.Mathlib.Omega.{arith}
 use lib.Bits.{bit_or}
-use lib.ListN.{length, get_or, take, drop, replicate}
-use lib.Seq.{take-take, paste}
+use lib.ListN.{get_or}
 use Rattle.sets.specs.Ranges.{given}
 use Rattle.sets.specs.Sets.{bit, ◌∈◌, ◌⊆◌, part, without, lowest}
 use Rattle.sets.specs.First.{Smallest}
 use Rattle.sets.proofs.Bits.{bit-or, bit-without, bit-empty, ext, ext-at, part-refl, part_in, in-part, part-yes, yes-part, in_without, in-more, less-in, less-same, less_other, more_same, more-other, or_left, member-differs}
 use Rattle.sets.proofs.Lowest.{lowest-in}
 use Rattle.network.specs.Network.{Network, listed, Cover}
-use Rattle.choice.specs.declared.Found.{Found}
 use Rattle.choice.specs.Choice.{smallest}
 use Rattle.choice.specs.Search.{Finds}
 use Rattle.choice.specs.Meaning.{found_by, is_some}
 use Rattle.choice.proofs.ChoiceLaws.{smallest-right}
-use Rattle.supports.specs.Supports.{row_of, Opens, Uncovered}
+use Rattle.supports.specs.Supports.{Opens, Uncovered}
 
 -- ---- a loop over the members of m, from the lowest up: those visited are the members that are not left, `without m left`
 
@@ -92,26 +91,17 @@ module _ (needs : List ℕ) (may : ℕ) where
   pub opening-end : (m v left : ℕ) → Opening m v left → left ≡ 0 → Opens needs m may v
   opening-end m v left (p, o) e = subst (λ (s : ℕ). Opens needs s may v) (ap (without m) e ∙ visited-all m) o
 
--- ---- the mutex words of a round layer
-
--- a copy of them, over 64 words
-pub row_copied : (words all : List ℕ) (j : ℕ) → 64 * j + 64 ≤ length words → all ≡ paste (replicate {A = ℕ} 64 0) 0 (take (length words - 64 * j) (drop (64 * j) words)) 64
-    → all ≡ row_of words j
-unfolding row_of
-row_copied words all j h e =
-    e ∙ append-nil (take 64 (take (length words - 64 * j) (drop (64 * j) words))) ∙ take-take 64 (length words - 64 * j) (drop (64 * j) words) (omega arith)
-
 -- ---- the question
 
 -- it may be asked of a copy of the mutex words
-pub asked-row : (n : ℕ) (gives : List ℕ) (allowed need : ℕ) {copy row : List ℕ} {r : Found} → copy ≡ row → r ≡ found_by (smallest (listed n gives copy) allowed need 0)
+pub asked-row : (n : ℕ) (gives : List ℕ) (allowed need : ℕ) {copy row : List ℕ} {r : code.Option ℕ} → copy ≡ row → r ≡ found_by (smallest (listed n gives copy) allowed need 0)
     → r ≡ found_by (smallest (listed n gives row) allowed need 0)
 asked-row n gives allowed need q e = e ∙ ap (λ (words : List ℕ). found_by (smallest (listed n gives words) allowed need 0)) q
 
 -- the answer is a cover, or there is none
-pub asked : (N : Network) (allowed need : ℕ) {r : Found} → allowed < 2 ^ N.articles → r ≡ found_by (smallest N allowed need 0) → Finds N allowed need r
+pub asked : (N : Network) (allowed need : ℕ) {r : code.Option ℕ} → allowed < 2 ^ N.articles → r ≡ found_by (smallest N allowed need 0) → Finds N allowed need r
 asked N allowed need h e =
-    subst (λ (f : Found). Finds N allowed need f) (sym e) (go (smallest N allowed need 0) (smallest-right N allowed need 0 h))
+    subst (λ (f : code.Option ℕ). Finds N allowed need f) (sym e) (go (smallest N allowed need 0) (smallest-right N allowed need 0 h))
   where
     go : (a : Option ℕ) → Smallest (Cover N allowed need) 0 a → Finds N allowed need (found_by a)
     go (some x) s = s.holds
@@ -124,10 +114,6 @@ coverable-none N allowed need h e = go (smallest N allowed need 0) (smallest-rig
     go : (a : Option ℕ) → Smallest (Cover N allowed need) 0 a → false ≡ is_some a → (x : ℕ) → Cover N allowed need x → ⊥
     go (some y) s q x c = absurd (true≢false (sym q))
     go none s q x c = s x c zero-le
-
-pub asked-none : (N : Network) (allowed need : ℕ) {r : Found} → allowed < 2 ^ N.articles → r ≡ found_by (smallest N allowed need 0) → r ≡ Found.Nothing
-    → (x : ℕ) → Cover N allowed need x → ⊥
-asked-none N allowed need h e q = subst (λ (f : Found). Finds N allowed need f) q (asked N allowed need h e)
 
 -- ---- facts that no selection covers
 

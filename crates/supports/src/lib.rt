@@ -11,8 +11,7 @@ ghost use Rattle.choice.specs.Choice.{smallest};
 ghost use Rattle.choice.specs.Meaning.{found_by};
 ghost use Rattle.supports.specs.Supports.{row_of, Opens, Uncovered};
 
-use choice::Found;
-use sets::{copy, word};
+use sets::word;
 
 // The mutex words of one round layer: one for each vertex.
 pub const ROW: usize = 64;
@@ -47,7 +46,7 @@ fn row(words: &[u64], j: usize) -> [u64; 64]
 {
     let at = ROW * j;
     let mut all: [u64; 64] = [0; 64];
-    copy::words(&mut all, 0, &words[at..], ROW);
+    all.copy_from_slice(&words[at..at + ROW]);
     all
 }
 
@@ -59,7 +58,7 @@ pub fn ask(
     j: usize,
     allowed: u64,
     facts: u64,
-) -> Found
+) -> Option<u64>
     requires { (j < 16) × (64 * j + 64 ≤ length words.now) × Tabled 64 gives.now (row_of words.now j) carriers.now }
     ensures { result ≡ found_by (smallest (listed 64 gives.now (row_of words.now j)) allowed facts 0) }
 {

@@ -43,52 +43,83 @@ pub struct Page {
     pub len: usize,
 }
 
-fn empty() -> Page
-    ensures { shown result ≡ [] }
-{
-    Page {
-        bytes: [0; ROOM],
-        len: 0,
+// The page with something more after its text.
+impl Page {
+    fn empty() -> Page
+        ensures { shown result ≡ [] }
+    {
+        Page {
+            bytes: [0; ROOM],
+            len: 0,
+        }
     }
-}
 
-// How many bytes of a page its text has.
-pub fn used(page: Page) -> usize
-    ensures upper_bound { result ≤ 2048 }
-    ensures bytes_value { take result page.bytes ≡ shown page }
-{
-    if page.len < ROOM {
-        return page.len;
+    // One byte more.
+    fn put(self, byte: u8) -> Page
+        ensures { shown result ≡ extended self (byte ∷ []) }
+    {
+        let at = self.len;
+        if at < ROOM {
+            let mut page = self;
+            page.bytes[at] = byte;
+            page.len = at + 1;
+            return page;
+        }
+        self
     }
-    ROOM
-}
 
-// One byte more.
-fn put(page: Page, byte: u8) -> Page
-    ensures { shown result ≡ extended page (byte ∷ []) }
-{
-    let at = page.len;
-    if at < ROOM {
-        let mut bytes = page.bytes;
-        bytes[at] = byte;
-        return Page {
-            bytes: bytes,
-            len: at + 1,
-        };
+    fn say(self, text: &[u8]) -> Page
+        ensures { shown result ≡ extended self text.now }
+    {
+        let mut done = self;
+        for byte in text {
+            done = done.put(*byte);
+        }
+        done
     }
-    page
-}
 
-fn say(page: Page, text: &[u8]) -> Page
-    ensures { shown result ≡ extended page text.now }
-{
-    let mut done = page;
-    let mut i: usize = 0;
-    while i < text.len() {
-        done = put(done, text[i]);
-        i += 1;
+    fn number(self, n: u64) -> Page
+        ensures { shown result ≡ extended self (decimal n) }
+    {
+        if n < TEN {
+            return self.put(digit(n));
+        }
+        self.number(n / TEN).put(digit(n % TEN))
     }
-    done
+
+    // Member i of a set, if it is one.
+    fn one(self, s: u64, i: usize) -> Page
+        requires { i < 64 }
+        ensures { shown result ≡ extended self (cond (member s i) (32 ∷ decimal i) []) }
+    {
+        if word::bit_at(s, i) == 1 {
+            return self.put(BLANK).number(i as u64);
+        }
+        self
+    }
+
+    // The members of a set below w.
+    fn set(self, s: u64, w: usize) -> Page
+        requires { w ≤ 64 }
+        ensures { shown result ≡ extended self (members w s) }
+    {
+        let mut done = self;
+        for i in 0..w {
+            done = done.one(s, i);
+        }
+        done
+    }
+
+    // Round i + 1.
+    fn round(self, i: usize, steps: u32) -> Page
+        requires { i < 16 }
+        ensures { shown result ≡ extended self (round_text 32 i steps) }
+    {
+        self.number(i as u64 + 1)
+            .put(COLON)
+            .set(u64::from(steps), STEPS)
+            .put(NEWLINE)
+    }
 }
 
 // The byte of a digit.
@@ -99,82 +130,43 @@ fn digit(n: u64) -> u8
     ZERO + n as u8
 }
 
-fn number(page: Page, n: u64) -> Page
-    ensures { shown result ≡ extended page (decimal n) }
+// How many bytes of a page its text has.
+pub fn used(page: Page) -> usize
+    ensures upper_bound { result ≤ 2048 }
+    ensures bytes_value { take result page.bytes ≡ shown page }
 {
-    if n < TEN {
-        return put(page, digit(n));
-    }
-    put(number(page, n / TEN), digit(n % TEN))
-}
-
-// Member i of a set, if it is one.
-fn one(page: Page, s: u64, i: usize) -> Page
-    requires { i < 64 }
-    ensures { shown result ≡ extended page (cond (member s i) (32 ∷ decimal i) []) }
-{
-    if word::bit_at(s, i) == 1 {
-        return number(put(page, BLANK), i as u64);
-    }
-    page
-}
-
-// The members of a set below w.
-fn set(page: Page, s: u64, w: usize) -> Page
-    requires { w ≤ 64 }
-    ensures { shown result ≡ extended page (members w s) }
-{
-    let mut done = page;
-    let mut i: usize = 0;
-    while i < w {
-        done = one(done, s, i);
-        i += 1;
-    }
-    done
+    page.len.min(ROOM)
 }
 
 pub fn refused(reason: u64, place: u64) -> Page
     ensures { shown result ≡ refused_text reason place }
 {
-    let a = say(empty(), b"refused ");
-    let b = number(a, reason);
-    let c = say(b, b" at ");
-    let d = number(c, place);
-    put(d, NEWLINE)
+    Page::empty()
+        .say(b"refused ")
+        .number(reason)
+        .say(b" at ")
+        .number(place)
+        .put(NEWLINE)
 }
 
 pub fn chosen(selection: u64, aside: u64) -> Page
     ensures { shown result ≡ chosen_text 64 selection aside }
 {
-    let a = say(empty(), b"chosen");
-    let b = set(a, selection, ARTICLES);
-    let c = say(b, b"\naside");
-    let d = set(c, aside, ARTICLES);
-    put(d, NEWLINE)
-}
-
-// Round i + 1.
-fn round(page: Page, i: usize, steps: u32) -> Page
-    requires { i < 16 }
-    ensures { shown result ≡ extended page (round_text 32 i steps) }
-{
-    let a = number(page, i as u64 + 1);
-    let b = put(a, COLON);
-    let c = set(b, steps as u64, STEPS);
-    put(c, NEWLINE)
+    Page::empty()
+        .say(b"chosen")
+        .set(selection, ARTICLES)
+        .say(b"\naside")
+        .set(aside, ARTICLES)
+        .put(NEWLINE)
 }
 
 pub fn rounds(k: usize, words: &[u32; HORIZON]) -> Page
     requires { k ≤ 16 }
     ensures { shown result ≡ rounds_text 32 k words.now }
 {
-    let a = say(empty(), b"rounds ");
-    let b = number(a, k as u64);
-    let mut done = put(b, NEWLINE);
-    let mut i: usize = 0;
-    while i < k {
-        done = round(done, i, words[i]);
-        i += 1;
+    let mut done = Page::empty().say(b"rounds ").number(k as u64).put(NEWLINE);
+    for (i, steps) in words[..k].iter().enumerate() {
+        done = done.round(i, *steps);
     }
     done
 }

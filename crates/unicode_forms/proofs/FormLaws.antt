@@ -1,21 +1,24 @@
 -- A form is made character by character. Assumes nothing.
 use mathlib.Core.Path.{◌≡◌, refl, sym, ap, subst, ◌∙◌}
 use mathlib.Core.Logic.{◌⊎◌, inl, inr}
-use mathlib.Core.Bool.{Bool, true, false, cond, ◌&&◌, true≢false, false≢true}
+use mathlib.Core.Bool.{true, false, cond, ◌&&◌, true≢false}
 use mathlib.Core.List.{List, [], ◌∷◌, ◌++◌, append_assoc, append-nil}
 use mathlib.Core.Option.{Option, none, some}
 use Prim.Native.Nat.{ℕ, ◌+◌, ◌<◌, ◌≤◌}
 use native.Mathlib.Omega.{arith}
 use lib.Dec.{ltb, eqb}
-use lib.ListN.{length, get_or, take, length-append}
-use lib.Seq.{length-take-le, get_or-take}
+use lib.ListN.{length, take, drop, length-append}
+use lib.Seq.{length-take-le, drop-drop}
 use borrow.Author.Tests.{ltb-true, ltb-false, lt-ltb, le-ltb, le-leb, lt-leb, eq-eqb, ne_eqb}
+use Rattle.std.specs.Prelude as code
+use Rattle.std.specs.Prelude.{Some, None}
+use Rattle.std.specs.Option.{is_some}
+use Rattle.unicode_forms.specs.declared.form.Form.{Form}
 use Rattle.sets.proofs.Ranges.{test-cases, both_true}
-use Rattle.sets.proofs.Lists.{all_same, one-differs, lengths_differ}
 use Rattle.unicode_forms.specs.Utf8.{covers, covers_all}
 use Rattle.unicode_forms.specs.Canonical.{entry_of, first_of, second_of, parts_in, parts, reorderable}
-use Rattle.unicode_forms.specs.Forms.{before, text_of, apart, inserted, ordered, form_of, same_form}
-use Rattle.unicode_forms.specs.Meaning.{told_by, SoundBy, short, more, more_all}
+use Rattle.unicode_forms.specs.Forms.{before, text_of, apart, inserted, ordered, form_of, Sound}
+use Rattle.unicode_forms.specs.Meaning.{told, short, more, more_all, Starts}
 use Rattle.unicode_forms.proofs.OrderLaws.{ordered-again, ordered-length}
 use Rattle.unicode_forms.proofs.TableLaws.{fixed}
 use Rattle.unicode_forms.proofs.EquivalenceLaws.{covers-append}
@@ -53,6 +56,11 @@ module _ (room : ℕ) where
   more-append o [] b = refl
   more-append o (c ∷ a) b = more-append (more room o c) a b
 
+  -- where one character has no room, no text that begins with it has
+  pub more-lost : (o : Option (List ℕ)) (c : ℕ) (l : List ℕ) → none ≡ more room o c → none ≡ more_all room o (c ∷ l)
+  unfolding more_all
+  more-lost o c l e = sym (more-none l) ∙ ap (λ (p : Option (List ℕ)). more_all room p l) e
+
   -- the form of all characters, if it has room
   pub more-short : (xs ys : List ℕ) → length xs ≤ room → more_all room (some (ordered xs)) ys ≡ short room (some (ordered (xs ++ ys)))
   unfolding more_all
@@ -89,6 +97,11 @@ module _ (room : ℕ) where
   rest-next o c none = refl
   rest-next o c (some cs) = more-append o (parts c) (apart cs)
 
+  -- the first character of what is left of bytes
+  pub rest-step : (o : Option (List ℕ)) (c size at : ℕ) (b : List ℕ) → Starts c size (drop at b) → rest o (text_of (drop at b)) ≡ rest (more_all room o (parts c)) (text_of (drop (at + size) b))
+  rest-step o c size at b s =
+      ap (rest o) s.is_text ∙ rest-next o c (text_of (drop size (drop at b))) ∙ ap (λ (l : List ℕ). rest (more_all room o (parts c)) (text_of l)) (drop-drop size at b)
+
   pub rest_end : (o : Option (List ℕ)) → rest o (text_of []) ≡ o
   unfolding rest apart text_of more_all
   rest_end o = refl
@@ -120,35 +133,26 @@ one-covered c h = rw h refl
 ordered-twice : (l : List ℕ) → ordered (ordered l) ≡ ordered l
 ordered-twice l = ap ordered (sym (append-nil (ordered l))) ∙ ordered-again l [] ∙ ap ordered (append-nil l)
 
-pub put-more : (room : ℕ) (known : Bool) (count c : ℕ) (chars next : List ℕ) → known ≡ true → length chars ≡ room → count < room → covers c ≡ true → SoundBy room known count (take count chars)
+pub put-more : (room count c : ℕ) (chars next : List ℕ) → length chars ≡ room → count < room → covers c ≡ true → Sound room count (take count chars)
     → take (count + 1) next ≡ ordered (take count chars ++ (c ∷ []))
-    → SoundBy room true (count + 1) (take (count + 1) next) × (some (take (count + 1) next) ≡ more room (told_by known (take count chars)) c)
-put-more room true count c chars next k l h v (s, a, o) e = (
+    → Sound room (count + 1) (take (count + 1) next) × (some (take (count + 1) next) ≡ more room (some (take count chars)) c)
+put-more room count c chars next l h v (s, a, o) e = (
   (omega arith, rw e (covers-ordered (take count chars ++ (c ∷ [])) (covers-append (take count chars) (c ∷ []) a (one-covered c v))), rw e (ordered-twice (take count chars ++ (c ∷ [])))),
   rw (e, lt-ltb (length (take count chars)) room (omega (arith, length-take-le count chars (omega arith)))) refl,
 )
-put-more room false count c chars next k l h v s e = absurd (false≢true k)
 
-pub put_full : (room : ℕ) (known : Bool) (count c : ℕ) (chars : List ℕ) → known ≡ true → length chars ≡ room → room ≤ count → SoundBy room known count (take count chars) → none ≡ more room (told_by known (take count chars)) c
-put_full room true count c chars k l h (s, a, o) = sym (rw (le-ltb (length (take count chars)) room (omega (arith, length-take-le count chars (omega arith)))) refl)
-put_full room false count c chars k l h s = absurd (false≢true k)
+pub put_full : (room count c : ℕ) (chars : List ℕ) → length chars ≡ room → room ≤ count → Sound room count (take count chars) → none ≡ more room (some (take count chars)) c
+put_full room count c chars l h (s, a, o) = sym (rw (le-ltb (length (take count chars)) room (omega (arith, length-take-le count chars (omega arith)))) refl)
 
-pub put-none : (room : ℕ) (known : Bool) (c : ℕ) (l : List ℕ) → known ≡ false → told_by known l ≡ more room (told_by known l) c
-put-none room true c l e = absurd (true≢false e)
-put-none room false c l e = refl
-
-pub told_none : (known : Bool) (l : List ℕ) → known ≡ false → told_by known l ≡ none
-told_none true l e = absurd (true≢false e)
-told_none false l e = refl
-
-pub known-sound : (room : ℕ) (known : Bool) (count : ℕ) (l : List ℕ) → known ≡ true → SoundBy room known count l → (count ≤ room) × (covers_all l ≡ true) × (ordered l ≡ l)
-known-sound room true count l e s = s
-known-sound room false count l e s = absurd (false≢true e)
+-- where there is no form, none is told
+pub told_none : (f : code.Option Form) → false ≡ is_some f → told f ≡ none
+told_none (Some f) e = absurd (true≢false (sym e))
+told_none None e = refl
 
 -- ---- the parts of a character
 
 module _ (c e : ℕ) (h : covers c ≡ true) (high : 0xc0 ≤ c) (is : e ≡ entry_of c) where
-  apart_by : parts c ≡ parts_in e
+  pub apart_by : parts c ≡ parts_in e
   apart_by = rw (le-ltb c 0xc0 high) (ap parts_in (sym is))
 
   all-covered : covers_all (parts_in e) ≡ true
@@ -169,32 +173,3 @@ module _ (c e : ℕ) (h : covers c ≡ true) (high : 0xc0 ≤ c) (is : e ≡ ent
   second-covered z =
       let all : covers_all ((first_of e) ∷ (second_of e) ∷ []) ≡ true = subst (λ (l : List ℕ). covers_all l ≡ true) (parts-two z) (fixed c h).0 in
       (both_true (covers (second_of e)) true (both_true (covers (first_of e)) (covers (second_of e) && true) all).1).0
-
--- ---- two forms compared
-
-module _ (room : ℕ) (k l : Bool) (m n : ℕ) (a b : List ℕ) (la : length a ≡ room) (lb : length b ≡ room) (sa : SoundBy room k m (take m a)) (sb : SoundBy room l n (take n b)) where
-  pub same_left : k ≡ false → false ≡ same_form (told_by k (take m a)) (told_by l (take n b))
-  same_left e = sym (rw e refl)
-
-  pub same-right : k ≡ true → l ≡ false → false ≡ same_form (told_by k (take m a)) (told_by l (take n b))
-  same-right e f = sym (rw (e, f) refl)
-
-  module _ (e : k ≡ true) (f : l ≡ true) where
-    long-a : length (take m a) ≡ m
-    long-a = length-take-le m a (omega (arith, (known-sound room k m (take m a) e sa).0))
-
-    long-b : length (take n b) ≡ n
-    long-b = length-take-le n b (omega (arith, (known-sound room l n (take n b) f sb).0))
-
-    pub same-counts : (m ≡ n → ⊥) → false ≡ same_form (told_by k (take m a)) (told_by l (take n b))
-    same-counts d = lengths_differ (take m a) (take n b) (λ q. d (sym long-a ∙ q ∙ long-b)) ∙ sym (rw (e, f) refl)
-
-    pub same-one : m ≡ n → (i : ℕ) → i < m → (get_or a i 0 ≡ get_or b i 0 → ⊥) → false ≡ same_form (told_by k (take m a)) (told_by l (take n b))
-    same-one q i h d =
-        one-differs (take m a) (take n b) i (λ z. d (sym (get_or-take m a i 0 h) ∙ z ∙ get_or-take n b i 0 (subst (λ (x : ℕ). i < x) q h))) ∙ sym (rw (e, f) refl)
-
-    pub same-every : m ≡ n → ((j : ℕ) → j < m → get_or a j 0 ≡ get_or b j 0) → true ≡ same_form (told_by k (take m a)) (told_by l (take n b))
-    same-every q h =
-        all_same (take m a) (take n b) (long-a ∙ q ∙ sym long-b)
-        (λ j z. let i : j < m = omega (arith, z, long-a) in get_or-take m a j 0 i ∙ h j i ∙ sym (get_or-take n b j 0 (subst (λ (x : ℕ). j < x) q i)))
-        ∙ sym (rw (e, f) refl)

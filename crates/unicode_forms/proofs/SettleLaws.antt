@@ -164,8 +164,12 @@ module _ (n c : ℕ) (m : List ℕ) (at : ℕ) (next : List ℕ) (g : Going n c 
   pub going-covered : covers (get_or next (at - 1) 0) ≡ true
   going-covered = rw going-read (covers_at (take n m) (at - 1) g.covered (let h = g.state.low in omega arith))
 
-  pub going_next : reorderable (get_or next (at - 1) 0) c ≡ true → Going n c m (at - 1) (set (set next at (get_or next (at - 1) 0)) (at - 1) c)
-  going_next e = record {
+  -- c stands at `at`
+  going-char : get_or next at 0 ≡ c
+  going-char = ap (λ (x : List ℕ). get_or x at 0) g.state.shape ∙ get_or_at (take at (take n m)) c (drop at (take n m) ++ drop (suc n) m) 0 at (length-take-le at (take n m) g.state.low)
+
+  going-down : reorderable (get_or next (at - 1) 0) c ≡ true → Going n c m (at - 1) (set (set next at (get_or next (at - 1) 0)) (at - 1) c)
+  going-down e = record {
     state = subst (λ (k : ℕ). Settling (take n m) (drop (suc n) m) c (at - 1) (set (set next k (get_or next (at - 1) 0)) (at - 1) c)) (sym down)
         (subst (λ (p : ℕ). Settling (take n m) (drop (suc n) m) c (at - 1) (set (set next (suc (at - 1)) p) (at - 1) c)) (sym going-read)
         (settle-next (take n m) (drop (suc n) m) c (at - 1) next here g.tidy (rw going-read at e)));
@@ -174,6 +178,10 @@ module _ (n c : ℕ) (m : List ℕ) (at : ℕ) (next : List ℕ) (g : Going n c 
     tidy = g.tidy;
     char = g.char;
   }
+
+  -- as the code exchanges the two
+  pub going_next : reorderable (get_or next (at - 1) 0) c ≡ true → Going n c m (at - 1) (set (set next (at - 1 + 1) (get_or next (at - 1) 0)) (at - 1) (get_or next (at - 1 + 1) 0))
+  going_next e = let up : at - 1 + 1 ≡ at = omega arith in rw (up, going-char) (going-down e)
 
   pub going-stop : reorderable (get_or next (at - 1) 0) c ≡ false → take (n + 1) next ≡ ordered (take n m ++ (c ∷ []))
   going-stop e =

@@ -4,7 +4,7 @@ use mathlib.Core.Logic.{◌⊎◌, inl, inr}
 use mathlib.Core.Bool.{true, false, ◌&&◌}
 use mathlib.Core.List.{List, [], ◌∷◌, ◌++◌}
 use mathlib.Core.Option.{Option, none, some}
-use Prim.Native.Nat.{ℕ, zero, suc, ◌+◌, ◌-◌, ◌/◌, ◌%◌, ◌<◌, ◌≤◌}
+use Prim.Native.Nat.{ℕ, suc, ◌+◌, ◌-◌, ◌/◌, ◌%◌, ◌<◌, ◌≤◌}
 use native.Mathlib.Omega.{arith}
 use lib.Dec.{ltb, leb}
 use lib.ListN.{length, get_or, drop, length-drop, drop_of_length-le}
@@ -13,7 +13,7 @@ use borrow.Author.Tests.{ltb-true, lt-ltb, le-ltb, le-leb, ltb-false, leb-true}
 use Rattle.sets.proofs.Ranges.{test-cases, both_true}
 use Rattle.unicode_forms.specs.Utf8.{encoded, utf8, covers, covers_all}
 use Rattle.unicode_forms.specs.Forms.{joined, is_pair, before, text_of}
-use Rattle.unicode_forms.specs.Meaning.{ReadBy}
+use Rattle.unicode_forms.specs.Meaning.{Starts}
 
 -- a covered character is below U+0370
 pub covered-low : (c : ℕ) → covers c ≡ true → c < 0x370
@@ -135,8 +135,13 @@ module _ (s : List ℕ) (at a : ℕ) (inside : at < length s) (is : a ≡ get_or
   front : drop at s ≡ a ∷ drop (suc at) s
   front = drop-cons s at 0 inside ∙ ap (λ (x : ℕ). x ∷ drop (suc at) s) (sym is)
 
-  pub read_one : a < 0x80 → ReadBy 1 a (drop at s)
-  read_one h = (simp (lt-ltb a 0x180 (let q : a < 0x180 = omega arith in q)), omega (arith, length-drop at s), subst (λ (l : List ℕ). text_of l ≡ before a (text_of (drop 1 l))) (sym front) (text-one a (drop (suc at) s) h))
+  pub read_one : a < 0x80 → Starts a 1 (drop at s)
+  read_one h = record {
+    char = simp (lt-ltb a 0x180 (let q : a < 0x180 = omega arith in q));
+    some_bytes = omega arith;
+    inside = omega (arith, length-drop at s);
+    is_text = subst (λ (l : List ℕ). text_of l ≡ before a (text_of (drop 1 l))) (sym front) (text-one a (drop (suc at) s) h);
+  }
 
   pub read-cut : 0x80 ≤ a → length s - at < 2 → text_of (drop at s) ≡ none
   unfolding text_of
@@ -150,14 +155,10 @@ module _ (s : List ℕ) (at a : ℕ) (inside : at < length s) (is : a ≡ get_or
     unfolding text_of
     read-bad e = ap text_of both ∙ simp (le-ltb a 0x80 high, e)
 
-    pub read-two : is_pair a b ≡ true → ReadBy 2 (joined a b) (drop at s)
-    read-two e = (let (p, q, r, m) = pair-from a b e in m, omega (arith, length-drop at s), subst (λ (l : List ℕ). text_of l ≡ before (joined a b) (text_of (drop 2 l))) (sym both) (text-pair a b (drop (suc (suc at)) s) high e))
-
--- a character that was read, and none
-pub read_none : (k c : ℕ) (s : List ℕ) → k ≡ 0 → ReadBy k c s → text_of s ≡ none
-read_none zero c s e r = r
-read_none (suc k) c s e r = absurd (omega arith)
-
-pub read_some : (k c : ℕ) (s : List ℕ) → (k ≡ 0 → ⊥) → ReadBy k c s → (covers c ≡ true) × (k ≤ length s) × (text_of s ≡ before c (text_of (drop k s)))
-read_some zero c s e r = absurd (e refl)
-read_some (suc k) c s e r = r
+    pub read-two : is_pair a b ≡ true → Starts (joined a b) 2 (drop at s)
+    read-two e = record {
+      char = let (p, q, r, m) = pair-from a b e in m;
+      some_bytes = omega arith;
+      inside = omega (arith, length-drop at s);
+      is_text = subst (λ (l : List ℕ). text_of l ≡ before (joined a b) (text_of (drop 2 l))) (sym both) (text-pair a b (drop (suc (suc at)) s) high e);
+    }

@@ -1,8 +1,8 @@
 -- The same as functions that compute: the text of bytes, its normalization form D, and whether two forms are the same.
-use Rattle.std.specs.Prelude.{Bool, false, cond, ◌&&◌, List, [], ◌∷◌, ◌++◌, ℕ, ◌+◌, ◌-◌, ◌*◌, leb, ltb}
+use Rattle.std.specs.Prelude.{◌≡◌, Bool, true, false, cond, ◌&&◌, List, [], ◌∷◌, ◌++◌, ℕ, ◌+◌, ◌-◌, ◌*◌, ◌≤◌, leb, ltb}
 use Rattle.std.proofs.Math.Option.{Option, none, some}
 use Rattle.sets.specs.Lists.{same_list}
-use Rattle.unicode_forms.specs.Utf8.{covers}
+use Rattle.unicode_forms.specs.Utf8.{covers, covers_all}
 use Rattle.unicode_forms.specs.Canonical.{parts, reorderable}
 
 -- ---- the text of bytes that are UTF-8 and all of whose characters are covered; other bytes have none
@@ -52,6 +52,10 @@ form_of (some cs) = some (nfd cs)
 
 abbrev pub form : List ℕ → Option (List ℕ)
 form bytes = form_of (text_of bytes)
+
+-- what holds of the characters of a form that there is room for: so many they may be, they are covered, and they are in order
+abbrev pub Sound : ℕ → ℕ → List ℕ → Type 0
+Sound room count l = (count ≤ room) × (covers_all l ≡ true) × (ordered l ≡ l)
 
 -- both have a form, and it is the same
 abbrev pub same_form : Option (List ℕ) → Option (List ℕ) → Bool

@@ -34,13 +34,7 @@ fn reorderable(a: u16, b: u16) -> bool
     ensures { result ≡ reorderable a b }
 {
     let second = class(b);
-    if second == 0 {
-        return false;
-    }
-    if class(a) <= second {
-        return false;
-    }
-    true
+    0 < second && second < class(a)
 }
 
 // One character more behind those that are in order: it is exchanged with the one before it as long as
@@ -51,15 +45,11 @@ pub fn settled(chars: [u16; 32], count: usize, c: u16) -> [u16; 32]
 {
     let mut next = chars;
     next[count] = c;
-    let mut at = count;
-    while 0 < at {
-        let p = next[at - 1];
-        if !reorderable(p, c) {
+    for at in (0..count).rev() {
+        if !reorderable(next[at], c) {
             return next;
         }
-        next[at] = p;
-        next[at - 1] = c;
-        at -= 1;
+        next.swap(at + 1, at);
     }
     next
 }

@@ -38,12 +38,9 @@ fn put_number(page: &mut [u8], at: usize, bytes: usize, number: u64) -> usize
     ensures { Put page.old at (bytes_of bytes number) page.new result }
 {
     let mut rest = number;
-    let mut i: usize = 0;
-    while i < bytes {
-        let k = at + i;
-        page[k] = (rest % 256) as u8;
-        rest = rest / 256;
-        i += 1;
+    for i in 0..bytes {
+        page[at + i] = (rest % 256) as u8;
+        rest /= 256;
     }
     at + bytes
 }
@@ -64,13 +61,9 @@ pub fn put_bytes(page: &mut [u8], at: usize, bytes: &[u8]) -> usize
     requires { at + length bytes.now ≤ length page.old }
     ensures { Put page.old at bytes.now page.new result }
 {
-    let mut i: usize = 0;
-    while i < bytes.len() {
-        let k = at + i;
-        page[k] = bytes[i];
-        i += 1;
-    }
-    at + i
+    let end = at + bytes.len();
+    page[at..end].copy_from_slice(bytes);
+    end
 }
 
 // A name with its length in front: an empty one is left out.
@@ -155,27 +148,20 @@ fn put_records(
     ensures put { Put page.old at (write_all (write_record choice) (list_to read.articles (article_in file.now read number name.now))) page.new result }
     ensures upper_bound { result ≤ at + record_most * read.articles }
 {
-    let wishes = read.wishes;
-    let clashes = read.clashes;
-    let prices = read.prices;
-    let starts = read.starts;
-    let lens = read.lens;
     let mut k = at;
-    let mut i: usize = 0;
-    while i < read.articles {
+    for i in 0..read.articles {
         k = put_article(
             page,
             k,
-            wishes[i],
-            clashes[i],
-            prices[i],
+            read.wishes[i],
+            read.clashes[i],
+            read.prices[i],
             file,
-            starts[i],
-            lens[i],
+            read.starts[i],
+            read.lens[i],
             i == number,
             name,
         );
-        i += 1;
     }
     k
 }

@@ -7,8 +7,8 @@ use Rattle.arguments.specs.Answers.{found_or, said, refusal_said}
 use Rattle.calls.proofs.ToldLaws.{seen, found-said}
 use Rattle.calls.proofs.answer_of.Goals as goal
 
-pub returns-in-Number : goal.returns-in-Number
-returns-in-Number c = found-said NameNotFound c.in-Number.is (seen (λ values is. omega arith)) (omega arith)
+pub returns-in-Some : goal.returns-in-Some
+returns-in-Some c = found-said NameNotFound c.in-Some.is (seen (λ values is. omega arith)) (omega arith)
 
-pub returns-in-Nobody : goal.returns-in-Nobody
-returns-in-Nobody c = ap refusal_said c.refusal_at.ensures ∙ sym (ap (λ n. said (found_or (holder_of n) NameNotFound)) c.in-Nobody.is)
+pub returns-in-None : goal.returns-in-None
+returns-in-None c = ap refusal_said c.at.ensures ∙ sym (ap (λ n. said (found_or (holder_of n) NameNotFound)) c.in-None.is)

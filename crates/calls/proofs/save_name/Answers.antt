@@ -5,4 +5,4 @@ use Rattle.calls.proofs.save_name.Goals as goal
 
 pub returns : goal.returns
 returns c =
-    c.saved.ensures ∙ ap (stored c.args.to.now) c.name-draft.ensures.result_value
+    c.store.ensures ∙ ap (stored c.args.to.now) c.name-draft.ensures

@@ -5,4 +5,4 @@ use Rattle.calls.proofs.save_wishes.Goals as goal
 
 pub returns : goal.returns
 returns c =
-    c.saved.ensures ∙ ap (stored c.args.to.now) c.wishes-draft.ensures.result_value
+    c.store.ensures ∙ ap (stored c.args.to.now) c.wishes-draft.ensures

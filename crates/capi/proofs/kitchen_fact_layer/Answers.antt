@@ -6,12 +6,12 @@ use Rattle.capi.specs.Returned.{alone}
 use Rattle.capi.proofs.ReturnedLaws.{first_word, second_word, value-handed, refusal-handed}
 use Rattle.capi.proofs.kitchen_fact_layer.Goals as goal
 
-pub returns-in-Facts : goal.returns-in-Facts
-returns-in-Facts c =
+pub returns-in-Ok : goal.returns-in-Ok
+returns-in-Ok c =
     let e = c.fact_layer-answer.ensures in
-    record { out_after = value-handed alone (sym (ap (λ l. l.answer) e) ∙ ap facts_told c.in-Facts.is) refl c.answered.ensures.1 (omega (arith, c.answered.ensures.0)) (omega (arith, first_word c.answered.ensures.1)) (omega (arith, second_word c.answered.ensures.1)); mutexes_after = ap (λ l. l.buffer) e }
+    record { out_after = value-handed alone (sym (ap (λ l. l.answer) e) ∙ ap facts_told c.in-Ok.is) refl c.answered.ensures.1 (omega (arith, c.answered.ensures.0)) (omega (arith, first_word c.answered.ensures.1)) (omega (arith, second_word c.answered.ensures.1)); mutexes_after = ap (λ l. l.buffer) e }
 
-pub returns-in-Refused : goal.returns-in-Refused
-returns-in-Refused c =
+pub returns-in-Err : goal.returns-in-Err
+returns-in-Err c =
     let e = c.fact_layer-answer.ensures in
-    record { out_after = refusal-handed alone (sym (ap (λ l. l.answer) e) ∙ ap facts_told c.in-Refused.is) c.refused.ensures.1 (omega (arith, c.refused.ensures.0)) (omega (arith, first_word c.refused.ensures.1)) (omega (arith, second_word c.refused.ensures.1)); mutexes_after = ap (λ l. l.buffer) e }
+    record { out_after = refusal-handed alone (sym (ap (λ l. l.answer) e) ∙ ap facts_told c.in-Err.is) c.refused.ensures.1 (omega (arith, c.refused.ensures.0)) (omega (arith, first_word c.refused.ensures.1)) (omega (arith, second_word c.refused.ensures.1)); mutexes_after = ap (λ l. l.buffer) e }

@@ -6,8 +6,8 @@ use Rattle.capi.specs.Returned.{alone}
 use Rattle.capi.proofs.ReturnedLaws.{first_word, second_word, value-handed, refusal-handed}
 use Rattle.capi.proofs.kitchen_find.Goals as goal
 
-pub returns-in-Number : goal.returns-in-Number
-returns-in-Number c = value-handed alone (sym c.find-answer.ensures ∙ ap find_told c.in-Number.is) refl c.answered.ensures.1 (omega (arith, c.answered.ensures.0)) (omega (arith, first_word c.answered.ensures.1)) (omega (arith, second_word c.answered.ensures.1))
+pub returns-in-Ok : goal.returns-in-Ok
+returns-in-Ok c = value-handed alone (sym c.find-answer.ensures ∙ ap find_told c.in-Ok.is) refl c.answered.ensures.1 (omega (arith, c.answered.ensures.0)) (omega (arith, first_word c.answered.ensures.1)) (omega (arith, second_word c.answered.ensures.1))
 
-pub returns-in-Refused : goal.returns-in-Refused
-returns-in-Refused c = refusal-handed alone (sym c.find-answer.ensures ∙ ap find_told c.in-Refused.is) c.refused.ensures.1 (omega (arith, c.refused.ensures.0)) (omega (arith, first_word c.refused.ensures.1)) (omega (arith, second_word c.refused.ensures.1))
+pub returns-in-Err : goal.returns-in-Err
+returns-in-Err c = refusal-handed alone (sym c.find-answer.ensures ∙ ap find_told c.in-Err.is) c.refused.ensures.1 (omega (arith, c.refused.ensures.0)) (omega (arith, first_word c.refused.ensures.1)) (omega (arith, second_word c.refused.ensures.1))

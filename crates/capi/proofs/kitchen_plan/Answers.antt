@@ -6,12 +6,12 @@ use Rattle.capi.specs.Returned.{alone}
 use Rattle.capi.proofs.ReturnedLaws.{first_word, second_word, value-handed, refusal-handed}
 use Rattle.capi.proofs.kitchen_plan.Goals as goal
 
-pub returns-in-Rounds : goal.returns-in-Rounds
-returns-in-Rounds c =
+pub returns-in-Ok : goal.returns-in-Ok
+returns-in-Ok c =
     let e = c.plan-answer.ensures in
-    record { out_after = value-handed alone (sym e.result_value ∙ ap plan_told c.in-Rounds.is) refl c.answered.ensures.1 (omega (arith, c.answered.ensures.0)) (omega (arith, first_word c.answered.ensures.1)) (omega (arith, second_word c.answered.ensures.1)); buffer = e.buffer }
+    record { out_after = value-handed alone (sym e.result_value ∙ ap plan_told c.in-Ok.is) refl c.answered.ensures.1 (omega (arith, c.answered.ensures.0)) (omega (arith, first_word c.answered.ensures.1)) (omega (arith, second_word c.answered.ensures.1)); buffer = e.buffer }
 
-pub returns-in-Refused : goal.returns-in-Refused
-returns-in-Refused c =
+pub returns-in-Err : goal.returns-in-Err
+returns-in-Err c =
     let e = c.plan-answer.ensures in
-    record { out_after = refusal-handed alone (sym e.result_value ∙ ap plan_told c.in-Refused.is) c.refused.ensures.1 (omega (arith, c.refused.ensures.0)) (omega (arith, first_word c.refused.ensures.1)) (omega (arith, second_word c.refused.ensures.1)); buffer = e.buffer }
+    record { out_after = refusal-handed alone (sym e.result_value ∙ ap plan_told c.in-Err.is) c.refused.ensures.1 (omega (arith, c.refused.ensures.0)) (omega (arith, first_word c.refused.ensures.1)) (omega (arith, second_word c.refused.ensures.1)); buffer = e.buffer }

@@ -6,8 +6,8 @@ use Rattle.capi.specs.Returned.{bill_words}
 use Rattle.capi.proofs.ReturnedLaws.{first-of-three, second-of-three, third-of-three, three-handed, three-refused}
 use Rattle.capi.proofs.kitchen_price.Goals as goal
 
-pub returns-in-Priced : goal.returns-in-Priced
-returns-in-Priced c = three-handed bill_words (sym c.price-answer.ensures ∙ ap price_told c.in-Priced.is) refl c.priced.ensures.1 (omega (arith, c.priced.ensures.0)) (omega (arith, first-of-three c.priced.ensures.1)) (omega (arith, second-of-three c.priced.ensures.1)) (omega (arith, third-of-three c.priced.ensures.1))
+pub returns-in-Ok : goal.returns-in-Ok
+returns-in-Ok c = three-handed bill_words (sym c.price-answer.ensures ∙ ap price_told c.in-Ok.is) refl c.answered.ensures.1 (omega (arith, c.answered.ensures.0)) (omega (arith, first-of-three c.answered.ensures.1)) (omega (arith, second-of-three c.answered.ensures.1)) (omega (arith, third-of-three c.answered.ensures.1))
 
-pub returns-in-Refused : goal.returns-in-Refused
-returns-in-Refused c = three-refused bill_words (sym c.price-answer.ensures ∙ ap price_told c.in-Refused.is) c.unpriced.ensures.1 (omega (arith, c.unpriced.ensures.0)) (omega (arith, first-of-three c.unpriced.ensures.1)) (omega (arith, second-of-three c.unpriced.ensures.1)) (omega (arith, third-of-three c.unpriced.ensures.1))
+pub returns-in-Err : goal.returns-in-Err
+returns-in-Err c = three-refused bill_words (sym c.price-answer.ensures ∙ ap price_told c.in-Err.is) c.refused.ensures.1 (omega (arith, c.refused.ensures.0)) (omega (arith, first-of-three c.refused.ensures.1)) (omega (arith, second-of-three c.refused.ensures.1)) (omega (arith, third-of-three c.refused.ensures.1))

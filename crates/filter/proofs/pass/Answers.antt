@@ -19,28 +19,13 @@ sum-all-requires c =
 
 pub loop-v-init : goal.loop-v-init
 unfolding set_of sum_to
-loop-v-init c = (omega arith, refl)
-
-pub overflow_cast-j : goal.overflow_cast-j
-overflow_cast-j c = let h = c.requires.2 c.loop-v.v c.loop-v-test.true in search rules
-
-pub offset_bounds-best-j : goal.offset_bounds-best-j
-offset_bounds-best-j c = let h = c.requires.2 c.loop-v.v c.loop-v-test.true in search rules
-
-pub bounds-best-j : goal.bounds-best-j
-bounds-best-j c = let h = c.requires.2 c.loop-v.v c.loop-v-test.true in search rules
+loop-v-init c = refl
 
 pub overflow_sub-rest : goal.overflow_sub-rest
 overflow_sub-rest c =
     let a = c.args in
     let h = c.requires.2 c.loop-v.v c.loop-v-test.true in
     let e = others-left (listed a.n a.wishes.now []) (λ i. get_or a.groups.now i 0) a.live a.goal c.contributions-best.result c.sum-all.result (get_or a.groups.now c.loop-v.v 0) c.requires.2 c.requires.0 c.contributions-best.ensures c.sum-all.ensures.value h in
-    search rules
-
-pub stays-staying-requires : goal.stays-staying-requires
-stays-staying-requires c =
-    let w = c.count-want.ensures.value in
-    let h = c.sum-all.ensures.upper_bound in
     search rules
 
 pub loop-v-preserved : goal.loop-v-preserved
@@ -50,7 +35,7 @@ loop-v-preserved c =
     let N = listed a.n a.wishes.now [] in
     let k = get_or a.groups.now l.v 0 in
     let e = others-left N (λ i. get_or a.groups.now i 0) a.live a.goal c.contributions-best.result c.sum-all.result k c.requires.2 c.requires.0 c.contributions-best.ensures c.sum-all.ensures.value (c.requires.2 l.v c.loop-v-test.true) in
-    (omega (arith, c.loop-v-test.true), pass-turn N (λ i. get_or a.groups.now i 0) a.live a.goal l.kept l.v _ c.more_if-kept.result c.stays-staying.result l.invariant.1 (let left : _ ≡ others N (λ i. get_or a.groups.now i 0) a.live a.goal k = omega (arith, e) in left) c.stays-staying.ensures c.more_if-kept.ensures)
+    pass-turn N (λ i. get_or a.groups.now i 0) a.live a.goal l.kept l.v _ c.more_if-kept.result c.stays-staying.result l.invariant (let left : _ ≡ others N (λ i. get_or a.groups.now i 0) a.live a.goal k = omega (arith, e) in left) c.stays-staying.ensures c.more_if-kept.ensures
 
 pub returns : goal.returns
 returns c =
@@ -59,4 +44,4 @@ returns c =
     let m = c.contributions-best in
     let all = c.sum-all in
     let N = listed a.n a.wishes.now [] in
-    let group : ℕ → ℕ = λ i. get_or a.groups.now i 0 in record { live_value = pass-end N group a.live a.goal l.kept l.v l.invariant.1 (omega (arith, l.invariant.0, c.loop-v-test.false)); sum_value = omega (arith, sum-total N group a.live a.goal m.result all.result c.requires.2 c.requires.0 m.ensures all.ensures.value) }
+    let group : ℕ → ℕ = λ i. get_or a.groups.now i 0 in record { live_value = pass-end N group a.live a.goal l.kept l.v l.invariant (omega arith); sum_value = omega (arith, sum-total N group a.live a.goal m.result all.result c.requires.2 c.requires.0 m.ensures all.ensures.value) }

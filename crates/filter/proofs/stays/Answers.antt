@@ -3,7 +3,6 @@ use mathlib.Core.Path.{sym, ap, ◌∙◌}
 use mathlib.Core.Bool.{Bool, ◌&&◌}
 use lib.Dec.{leb}
 use lib.ListN.{get_or}
-use borrow.Author.Tests.{ne_eqb}
 use Rattle.sets.specs.Sets.{without, count}
 use Rattle.sets.proofs.Bits.{member-yes}
 use Rattle.filter.proofs.PassLaws.{lacking-left}
@@ -16,8 +15,3 @@ returns-then-bit_at-eq1 c =
     c.reaches.ensures
     ∙ lacking-left a.goal s a.want c.count-own.result a.rest c.requires.1 c.count-own.ensures.value
     ∙ sym (ap (λ (b : Bool). b && leb (count (without a.goal s)) a.rest) (member-yes a.live a.v (sym c.bit_at.ensures ∙ c.if-bit_at-eq1.true)))
-
-pub returns : goal.returns
-returns c =
-    let a = c.args in
-    sym (ap (λ (b : Bool). b && leb (count (without a.goal (get_or a.wishes.now a.v 0))) a.rest) (ne_eqb _ 1 (λ e. c.if-bit_at-eq1.false (c.bit_at.ensures ∙ e))))

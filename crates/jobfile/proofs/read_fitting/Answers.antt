@@ -1,19 +1,19 @@
 -- `jobfile::read_fitting` meets its contract, as `read_choice` does.
 use native.Mathlib.Omega.{arith}
-use Rattle.jobfile.proofs.ReadLaws.{fitting-refused, fitting-accepted}
+use Rattle.jobfile.proofs.ReadLaws.{fitting-accepted}
 use Rattle.jobfile.proofs.read_fitting.Goals as goal
 
-pub read_records-records-requires : goal.read_records-records-requires
-read_records-records-requires c = omega arith
-
-pub returns-in-Refused : goal.returns-in-Refused
-returns-in-Refused c =
-    let both = fitting-refused c.args.file.now c.count-steps.result.value c.count-counted.result.value c.count-rounds.result.value c.set-start.result.value c.set-goal.result.value c.read_records-records.result c.kind-a.result c.count-steps.result.next c.count-counted.result.next c.count-rounds.result.next c.set-start.result.next c.set-goal.result.next
-    c.kind-a.ensures c.count-steps.ensures.result_value c.count-counted.ensures.result_value c.count-rounds.ensures.result_value c.set-start.ensures c.set-goal.ensures c.read_records-records.ensures.result_value (λ k. omega (arith, c.shared_slice_known-1.given k)) c.finish-end.ensures c.in-Refused.is c.no_fitting.ensures in
-    record { value = both.0; fitting_bounds = both.1 }
-
-pub returns-in-At : goal.returns-in-At
-returns-in-At c =
-    let both = fitting-accepted c.args.file.now c.count-steps.result.value c.count-counted.result.value c.count-rounds.result.value c.set-start.result.value c.set-goal.result.value c.read_records-records.result c.kind-a.result c.count-steps.result.next c.count-counted.result.next c.count-rounds.result.next c.set-start.result.next c.set-goal.result.next
-    c.kind-a.ensures c.count-steps.ensures.result_value c.count-counted.ensures.result_value c.count-rounds.ensures.result_value c.set-start.ensures c.set-goal.ensures c.read_records-records.ensures.result_value (λ k. omega (arith, c.shared_slice_known-1.given k)) c.finish-end.ensures c.in-At.is c.count-steps.ensures.value_le_limit c.count-counted.ensures.value_le_limit c.count-rounds.ensures.value_le_limit c.read_records-records.ensures.columns in
-    record { value = both.0; fitting_bounds = both.1 }
+pub returns : goal.returns
+returns c =
+    let file = c.args.file.now in
+    let at = c.in_ok-at in
+    let steps = c.in_ok-steps in
+    let facts = c.in_ok-counted in
+    let horizon = c.in_ok-horizon in
+    let start = c.in_ok-start in
+    let aim = c.in_ok-goal in
+    let records = c.in_ok-needs in
+    let all = fitting-accepted file steps.steps.value facts.counted.value horizon.horizon.value start.start.value aim.goal.value at.at steps.steps.next facts.counted.next horizon.horizon.next start.start.next aim.goal.next records.field-0
+    at.ensures steps.ensures.result_value facts.ensures.result_value horizon.ensures.result_value start.ensures aim.ensures records.ensures.result_value c.in_ok-finish.ensures
+    (λ k. omega (arith, c.type_inv.file k)) steps.ensures.value_le_limit facts.ensures.value_le_limit horizon.ensures.value_le_limit records.ensures.columns in
+    record { value = all.0; fitting_bounds = all.1; few = all.2; bytes = λ k. omega (arith, c.type_inv.file k) }

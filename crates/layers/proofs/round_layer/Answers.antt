@@ -7,10 +7,11 @@ use Rattle.layers.proofs.round_layer.Goals as goal
 pub round_over-requires : goal.round_over-requires
 round_over-requires c =
     let a = c.args in
-    record { count_bound = c.requires.0.few; by_index = needs-fit 32 a.job.steps a.job.facts a.job.start a.job.goal a.job.horizon a.job.needs a.job.gives a.job.takes c.requires.0 c.with_keepers-needs.ensures }
+    record { count_bound = c.requires.0.few; by_index = needs-fit 32 a.job.steps a.job.facts a.job.start a.job.goal a.job.horizon a.job.needs a.job.gives a.job.takes c.requires.0 c.of.ensures.needs }
 
 pub returns : goal.returns
 returns c =
     let a = c.args in
-    let steps = vertices-listed 32 a.job.steps a.job.facts a.job.start a.job.goal a.job.horizon a.job.needs a.job.gives a.job.takes c.requires.0 c.with_keepers-needs.ensures c.with_keepers-gives.ensures c.without_keepers-takes.ensures in
+    let v = c.of in
+    let steps = vertices-listed 32 a.job.steps a.job.facts a.job.start a.job.goal a.job.horizon a.job.needs a.job.gives a.job.takes c.requires.0 v.ensures.needs v.ensures.gives v.ensures.takes in
     layer-round (fitting_in a.job) _ (a.k - 1) _ _ steps c.fact_layer.ensures c.round_over.ensures

@@ -5,7 +5,8 @@ use mathlib.Core.List.{List}
 use Prim.Native.Nat.{ℕ, ◌+◌, ◌-◌, ◌^◌, ◌<◌}
 use native.Mathlib.Omega.{arith}
 use lib.ListN.{get_or, take, drop}
-use Rattle.sets.proofs.First.{first-here, first-nowhere, left-start, left-next}
+use Rattle.sets.proofs.First.{first-here, first_next, first-nowhere}
+use Rattle.sets.specs.First.{first_from}
 use Rattle.names.specs.Names.{same_name}
 use Rattle.names.proofs.SameLaws.{search-some, search-none, part-short}
 use Rattle.names.proofs.search.Invariants.{name_of, has_name}
@@ -22,10 +23,11 @@ returns-then-name-eq0 c =
     let a = c.args in
     search-none a.name.now a.n (name_of a.file.now a.starts a.lens) (omega (arith, c.if-name-eq0.true))
 
-pub loop-left-init : goal.loop-left-init
-loop-left-init c =
+pub loop-i-init : goal.loop-i-init
+loop-i-init c =
     let a = c.args in
-    (omega arith, omega (arith, c.if-name-eq0.false), left-start (has_name a.file.now a.starts a.lens a.name.now) a.n, c.normalized-wanted.ensures.0, c.normalized-wanted.ensures.1)
+    let all : a.n - 0 ≡ a.n = omega arith in
+    (omega (arith, c.if-name-eq0.false), ap (λ (m : ℕ). first_from (has_name a.file.now a.starts a.lens a.name.now) m 0) all, c.normalized-wanted.ensures)
 
 pub overflow_add-e : goal.overflow_add-e
 overflow_add-e c =
@@ -34,33 +36,31 @@ overflow_add-e c =
     search (rules, room)
 
 pub equal-requires : goal.equal-requires
-equal-requires c =
-    let l = c.loop-left in
-    (part-short c.args.file.now _ _ 32 (c.requires.2 _), l.invariant.3, l.invariant.4)
+equal-requires c = (part-short c.args.file.now _ _ 32 (c.requires.2 _), c.loop-i.invariant.2)
 
 pub returns-then-equal : goal.returns-then-equal
 returns-then-equal c =
     let a = c.args in
-    let l = c.loop-left in
-    let i = a.n - l.left in
+    let l = c.loop-i in
     let test = has_name a.file.now a.starts a.lens a.name.now in
-    first-here test l.left i c.loop-left-test.true (seen a.file.now a.starts a.lens a.name.now i c.equal.ensures ∙ c.if-equal.true)
-    ∙ l.invariant.2
-    ∙ search-some a.name.now a.n (name_of a.file.now a.starts a.lens) l.invariant.1
+    first-here test (a.n - l.i) l.i (omega (arith, c.loop-i-test.true)) (seen a.file.now a.starts a.lens a.name.now l.i c.equal.ensures ∙ c.if-equal.true)
+    ∙ l.invariant.1
+    ∙ search-some a.name.now a.n (name_of a.file.now a.starts a.lens) l.invariant.0
 
-pub loop-left-preserved : goal.loop-left-preserved
-loop-left-preserved c =
+pub loop-i-preserved : goal.loop-i-preserved
+loop-i-preserved c =
     let a = c.args in
-    let l = c.loop-left in
-    let i = a.n - l.left in
+    let l = c.loop-i in
     let test = has_name a.file.now a.starts a.lens a.name.now in
-    (omega arith, l.invariant.1, left-next test a.n l.left c.loop-left-test.true l.invariant.0 (seen a.file.now a.starts a.lens a.name.now i c.equal.ensures ∙ c.if-equal.false) ∙ l.invariant.2, l.invariant.3, l.invariant.4)
+    let left : a.n - (l.i + 1) ≡ a.n - l.i - 1 = omega arith in
+    let missed = first_next test (a.n - l.i) l.i (omega (arith, c.loop-i-test.true)) (seen a.file.now a.starts a.lens a.name.now l.i c.equal.ensures ∙ c.if-equal.false) in
+    (l.invariant.0, ap (λ (m : ℕ). first_from test m (l.i + 1)) left ∙ sym missed ∙ l.invariant.1, l.invariant.2)
 
 pub returns : goal.returns
 returns c =
     let a = c.args in
-    let l = c.loop-left in
+    let l = c.loop-i in
     let test = has_name a.file.now a.starts a.lens a.name.now in
-    first-nowhere test l.left (a.n - l.left) (omega (arith, c.loop-left-test.false))
-    ∙ l.invariant.2
-    ∙ search-some a.name.now a.n (name_of a.file.now a.starts a.lens) l.invariant.1
+    first-nowhere test (a.n - l.i) l.i (omega (arith, c.loop-i-test.false))
+    ∙ l.invariant.1
+    ∙ search-some a.name.now a.n (name_of a.file.now a.starts a.lens) l.invariant.0

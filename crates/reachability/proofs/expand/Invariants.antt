@@ -1,7 +1,7 @@
 -- `reachability::expand` meets its contract. The invariant: the arrays keep their lengths, the list has grown, and what the first a steps lead to is
--- listed. The measure is how many steps are left.
+-- listed.
 use mathlib.Core.Path.{◌≡◌}
-use Prim.Native.Nat.{ℕ, ◌-◌, ◌≤◌, ◌<◌}
+use Prim.Native.Nat.{ℕ, ◌<◌}
 use lib.ListN.{length}
 use Rattle.planning.specs.Rounds.{listed_steps}
 use Rattle.reachability.specs.States.{Leads, Grown}
@@ -9,7 +9,4 @@ use Rattle.reachability.proofs.expand.Given as goal
 
 abbrev pub invariant-loop-a : goal.invariant-loop-a
 invariant-loop-a l =
-    (l.a ≤ l.steps) × (length l.states ≡ 8192) × (length l.slots ≡ 32768) × Grown l.initial.states l.states l.count l.n × ((b : ℕ) → b < l.a → Leads (listed_steps l.needs l.gives l.takes) l.states l.n l.facts b)
-
-abbrev pub decreases-loop-a : goal.decreases-loop-a
-decreases-loop-a l = l.steps - l.a
+    (length l.states ≡ 8192) × (length l.slots ≡ 32768) × Grown l.initial.states l.states l.count l.n × ((b : ℕ) → b < l.a → Leads (listed_steps l.job.needs l.job.gives l.job.takes) l.states l.n l.facts b)

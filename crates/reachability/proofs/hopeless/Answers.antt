@@ -10,23 +10,12 @@ use Rattle.planning.specs.Meaning.{fitting_in}
 use Rattle.reachability.proofs.StateLaws.{Settled, among-grown, settled-grown, settled-hopeless}
 use Rattle.reachability.proofs.hopeless.Goals as goal
 
-pub loop-i-init : goal.loop-i-init
-loop-i-init c =
-    let (g, m) = c.insert-count.ensures c.if-count-eq0.false in (
-      search rules,
-      omega (arith, g.room, c.insert-count.auto.states),
-      search rules,
-      search rules,
-      m,
-      λ m l. absurd (let f : ⊥ = omega arith in f),
-    )
-
 pub loop-i-preserved : goal.loop-i-preserved
 loop-i-preserved c =
     let job = c.args.job in
     let l = c.loop-i in
-    let t = c.expand-count in
-    let (g, m) = t.ensures c.if-count-eq0-2.false in
+    let t = c.expand in
+    let (g, m) = c.in-Some-expand.ensures in
     let here : l.i < l.count = c.loop-i-test.true in
     let lacks : (job.goal ⊆ get_or t.new.states l.i 0 → ⊥) =
     λ h. c.if-without-eq0.false (c.without.ensures ∙ without-none job.goal (get_or l.states l.i 0) (subst (λ (s : ℕ). job.goal ⊆ s) (g.same l.i here) h)) in (
@@ -35,7 +24,7 @@ loop-i-preserved c =
       search rules,
       search rules,
       among-grown g job.start l.invariant.4,
-      one_more (Settled (fitting_in job) t.new.states t.result) l.i (λ m k. settled-grown g (fitting_in job) m (omega arith) (l.invariant.5 m k)) (lacks, m),
+      one_more (Settled (fitting_in job) t.new.states c.in-Some-expand.grown) l.i (λ m k. settled-grown g (fitting_in job) m (omega arith) (l.invariant.5 m k)) (lacks, m),
     )
 
 pub returns : goal.returns

@@ -1,7 +1,13 @@
--- `supports::row` meets its contract: what is copied is a row.
-use Rattle.supports.proofs.LayerLaws.{row_copied}
+-- `supports::row` meets its contract.
+use mathlib.Core.Path.{◌≡◌, ap, ◌∙◌}
+use Prim.Native.Nat.{ℕ, ◌+◌, ◌-◌, ◌*◌}
+use native.Mathlib.Omega.{arith}
+use lib.ListN.{take, drop}
+use Rattle.supports.specs.Supports.{row_of}
 use Rattle.supports.proofs.row.Goals as goal
 
 pub returns : goal.returns
+unfolding row_of
 returns c =
-    row_copied c.args.words.now c.words.new.to c.args.j c.requires.1 c.words.ensures
+    let all : 64 * c.args.j + 64 - 64 * c.args.j ≡ 64 = omega arith in
+    c.copy_from_slice.ensures.after ∙ ap (λ (n : ℕ). take n (drop (64 * c.args.j) c.args.words.now)) all

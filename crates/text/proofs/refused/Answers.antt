@@ -6,4 +6,4 @@ use Rattle.text.proofs.refused.Goals as goal
 pub returns : goal.returns
 returns c =
     let v = c.args in
-    five-parts 2048 _ _ _ _ _ _ _ _ _ c.empty.ensures c.say-a.ensures c.number-b.ensures c.say-c.ensures c.number-d.ensures _ _ c.put.ensures (refused-fits v.reason v.place (search rules) (search rules))
+    five-parts 2048 _ _ _ _ _ _ _ _ _ c.empty.ensures c.say.ensures c.number.ensures c.say-2.ensures c.number-2.ensures _ _ c.put.ensures (refused-fits v.reason v.place (search rules) (search rules))

@@ -1,13 +1,9 @@
 -- `text::rounds` meets its contract: the three parts of the first line and the rounds come one after the other, and there is room for them.
--- The invariant: the rounds before i come after the first line. The measure is how many are left.
+-- The invariant: the rounds before i come after the first line.
 use mathlib.Core.Path.{◌≡◌}
-use Prim.Native.Nat.{◌-◌, ◌≤◌}
 use Rattle.text.specs.Text.{round_texts}
 use Rattle.text.specs.Meaning.{shown, extended}
 use Rattle.text.proofs.rounds.Given as goal
 
 abbrev pub invariant-loop-i : goal.invariant-loop-i
-invariant-loop-i l = (l.i ≤ l.k) × (shown l.done ≡ extended l.initial.done (round_texts 32 l.i l.words))
-
-abbrev pub decreases-loop-i : goal.decreases-loop-i
-decreases-loop-i l = l.k - l.i
+invariant-loop-i l = shown l.done ≡ extended l.initial.done (round_texts 32 l.i l.words)

@@ -1,4 +1,5 @@
 use mathlib.Core.List.{[]}
+use mathlib.Core.Path.{refl}
 use native.Mathlib.Omega.{arith}
 use lib.ListN.{get_or}
 use Rattle.sets.specs.Sets.{full}
@@ -9,30 +10,26 @@ use Rattle.filter.proofs.passes.pass_each.Goals as goal
 pub loop-i-init : goal.loop-i-init
 loop-i-init c =
     let a = c.args in
-    (omega arith, onward-start (listed a.n a.wishes.now []) (λ u. get_or a.groups.now u 0) (full a.n) a.goals.now c.full-all.ensures)
+    onward-start (listed a.n a.wishes.now []) (λ u. get_or a.groups.now u 0) (full a.n) a.goals.now c.full-all.ensures
 
-pub returns-then-passed-count : goal.returns-then-passed-count
-returns-then-passed-count c =
+pub returns-then-passed-count-clause-short_value : goal.returns-then-passed-count-clause-short_value
+returns-then-passed-count-clause-short_value c =
     let a = c.args in
     let l = c.loop-i in
-    let short = onward-short (listed a.n a.wishes.now []) (λ u. get_or a.groups.now u 0) (full a.n) a.goals.now l.invariant.1 c.loop-i-test.true (omega arith)
-    c.goal_at-goal.ensures c.pass-passed.ensures.sum_value c.count.ensures.value (omega (arith, c.if-passed-count.true)) in
-    record { short_value = omega (arith, short); live_value = l.invariant.1.0 }
+    let short = onward-short (listed a.n a.wishes.now []) (λ u. get_or a.groups.now u 0) (full a.n) a.goals.now l.invariant c.loop-i-test.true (omega arith)
+    refl c.pass-passed.ensures.sum_value c.count.ensures.value (omega (arith, c.if-passed-count.true)) in
+    omega (arith, short)
 
 pub loop-i-preserved : goal.loop-i-preserved
 loop-i-preserved c =
     let a = c.args in
     let l = c.loop-i in
     let t = c.loop-i-test.true in
-    let p = c.pass-passed in (
-      omega (arith, t),
-      onward-turn (listed a.n a.wishes.now []) (λ u. get_or a.groups.now u 0) (full a.n) a.goals.now l.invariant.1 t (omega arith)
-          c.goal_at-goal.ensures p.ensures.sum_value c.count.ensures.value (omega (arith, c.if-passed-count.false)) p.ensures.live_value,
-    )
+    let p = c.pass-passed in
+    onward-turn (listed a.n a.wishes.now []) (λ u. get_or a.groups.now u 0) (full a.n) a.goals.now l.invariant t (omega arith)
+    refl p.ensures.sum_value c.count.ensures.value (omega (arith, c.if-passed-count.false)) p.ensures.live_value
 
-pub returns : goal.returns
-returns c =
+pub returns-clause-short_value : goal.returns-clause-short_value
+returns-clause-short_value c =
     let a = c.args in
-    let l = c.loop-i in
-    let end = onward-end (listed a.n a.wishes.now []) (λ u. get_or a.groups.now u 0) (full a.n) a.goals.now l.invariant.1 (omega (arith, l.invariant.0, c.loop-i-test.false)) in
-    record { short_value = omega (arith, end); live_value = l.invariant.1.0 }
+    omega (arith, onward-end (listed a.n a.wishes.now []) (λ u. get_or a.groups.now u 0) (full a.n) a.goals.now c.loop-i.invariant (omega arith))

@@ -1,15 +1,10 @@
 -- `filter::passes::pass_each` meets its contract. The invariant, `Onward`: what is live is what the passes so far left, and no goal of theirs fell short.
--- The measure is how many goals are left.
 use mathlib.Core.List.{[]}
-use Prim.Native.Nat.{◌-◌, ◌≤◌}
-use lib.ListN.{length, get_or}
+use lib.ListN.{get_or}
 use Rattle.sets.specs.Sets.{full}
 use Rattle.network.specs.Network.{listed}
 use Rattle.filter.proofs.PassLaws.{Onward}
 use Rattle.filter.proofs.passes.pass_each.Given as goal
 
 abbrev pub invariant-loop-i : goal.invariant-loop-i
-invariant-loop-i l = (l.i ≤ length l.goals) × Onward (listed l.n l.wishes []) (λ u. get_or l.groups u 0) (full l.n) l.goals l.live l.i
-
-abbrev pub decreases-loop-i : goal.decreases-loop-i
-decreases-loop-i l = length l.goals - l.i
+invariant-loop-i l = Onward (listed l.n l.wishes []) (λ u. get_or l.groups u 0) (full l.n) l.goals l.live l.i

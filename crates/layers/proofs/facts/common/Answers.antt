@@ -9,12 +9,6 @@ use Rattle.layers.proofs.facts.common.Goals as goal
 pub loop-left-init : goal.loop-left-init
 loop-left-init c = (search rules, omega arith, all_start 64 (λ x. get_or c.args.words.now x 0) c.args.set)
 
-pub lowest-x-requires : goal.lowest-x-requires
-lowest-x-requires c = c.loop-left-test.true
-
-pub rest-left-requires : goal.rest-left-requires
-rest-left-requires c = c.loop-left-test.true
-
 pub loop-left-preserved : goal.loop-left-preserved
 loop-left-preserved c =
     let l = c.loop-left in

@@ -5,14 +5,9 @@ use Prim.Native.Nat.{◌^◌, ◌<◌}
 use Rattle.planning.specs.Rounds.{listed_steps}
 use Rattle.planning.specs.Layers.{excluded}
 use Rattle.layers.specs.Meaning.{layer}
-use Rattle.layers.proofs.RoundCode.{word-absent, word-there}
+use Rattle.layers.proofs.RoundCode.{word-there}
 use Rattle.layers.proofs.FactCode.{row_made}
 use Rattle.layers.proofs.facts.row.Goals as goal
-
-pub returns-then-bit_at-eq0 : goal.returns-then-bit_at-eq0
-returns-then-bit_at-eq0 c =
-    let a = c.args in
-    word-absent 32 a.facts (excluded 32 (listed_steps [] a.gives.now []) (layer a.members a.words.now)) a.p c.bit_at.result c.bit_at.ensures c.if-bit_at-eq0.true
 
 pub returns : goal.returns
 returns c =

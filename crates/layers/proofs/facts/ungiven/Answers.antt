@@ -1,9 +1,8 @@
-use borrow.Author.Rules.{rules}
 use mathlib.Core.Path.{sym, ap, ◌∙◌}
 use mathlib.Core.Bool.{Bool, not-not}
 use Prim.Native.Nat.{ℕ, ◌^◌}
 use native.Mathlib.Omega.{arith}
-use lib.Bits.{bit_and, bit_or, or_zero_l}
+use lib.Bits.{bit_and, bit_or}
 use lib.Dec.{eqb}
 use lib.ListN.{get_or}
 use Rattle.sets.specs.Ranges.{given}
@@ -13,15 +12,6 @@ use Rattle.sets.proofs.Lowest.{gathered-visit}
 use Rattle.layers.proofs.SetCode.{gathered-test}
 use Rattle.layers.proofs.facts.ungiven.Invariants.{apart, one}
 use Rattle.layers.proofs.facts.ungiven.Goals as goal
-
-pub loop-left-init : goal.loop-left-init
-loop-left-init c = (search rules, or_zero_l (gathered 64 c.args.set (one c.args.turned.now c.args.free)))
-
-pub lowest-q-requires : goal.lowest-q-requires
-lowest-q-requires c = c.loop-left-test.true
-
-pub rest-left-requires : goal.rest-left-requires
-rest-left-requires c = c.loop-left-test.true
 
 pub loop-left-preserved : goal.loop-left-preserved
 unfolding meets

@@ -1,8 +1,7 @@
--- `layers::facts::words` meets its contract. The invariant: the words of the facts below p are made, and those after them are 0. The measure is how
--- many facts are left.
+-- `layers::facts::words` meets its contract. The invariant: the words of the facts below p are made, and those after them are 0.
 use mathlib.Core.Path.{◌≡◌}
 use mathlib.Core.List.{List, []}
-use Prim.Native.Nat.{ℕ, ◌-◌, ◌≤◌}
+use Prim.Native.Nat.{ℕ, ◌≤◌}
 use lib.ListN.{get_or}
 use Rattle.sets.proofs.Filled.{Filled}
 use Rattle.planning.specs.Rounds.{listed_steps}
@@ -14,7 +13,4 @@ abbrev pub word_in : List ℕ → List ℕ → ℕ → ℕ → ℕ → ℕ
 word_in gives words members facts = mutex_word 32 facts (excluded 32 (listed_steps [] gives []) (layer members words))
 
 abbrev pub invariant-loop-p : goal.invariant-loop-p
-invariant-loop-p l = (l.p ≤ 32) × Filled 64 (word_in l.gives l.words l.members l.facts) l.all l.p × ((k : ℕ) → l.p ≤ k → get_or l.all k 0 ≡ 0)
-
-abbrev pub decreases-loop-p : goal.decreases-loop-p
-decreases-loop-p l = 32 - l.p
+invariant-loop-p l = Filled 64 (word_in l.gives l.words l.members l.facts) l.all l.p × ((k : ℕ) → l.p ≤ k → get_or l.all k 0 ≡ 0)

@@ -12,18 +12,18 @@ use Rattle.layers.proofs.rounds.standing.Goals as goal
 
 pub loop-x-init : goal.loop-x-init
 unfolding set_of sum_to
-loop-x-init c = (omega arith, refl)
+loop-x-init c = refl
 
 pub loop-x-preserved : goal.loop-x-preserved
 loop-x-preserved c =
     let a = c.args in
     let l = c.loop-x in
-    (omega (arith, c.loop-x-test.true), set-made (stands 32 (listed_steps a.needs.now [] []) (layer a.facts a.words.now)) l.set l.x c.more_if-set.result c.stands-up.result l.invariant.1 c.stands-up.ensures c.more_if-set.ensures)
+    set-made (stands 32 (listed_steps a.needs.now [] []) (layer a.facts a.words.now)) l.set l.x c.more_if-set.result c.stands-up.result l.invariant c.stands-up.ensures c.more_if-set.ensures
 
 pub returns : goal.returns
 unfolding standing
 returns c =
     let a = c.args in
     let l = c.loop-x in
-    let e : l.x ≡ 32 + a.count = omega (arith, l.invariant.0, c.loop-x-test.false) in
-    l.invariant.1 ∙ ap (λ (n : ℕ). set_of n (stands 32 (listed_steps a.needs.now [] []) (layer a.facts a.words.now))) e
+    let e : l.x ≡ 32 + a.count = omega arith in
+    l.invariant ∙ ap (λ (n : ℕ). set_of n (stands 32 (listed_steps a.needs.now [] []) (layer a.facts a.words.now))) e

@@ -1,8 +1,6 @@
--- `layers::rounds::standing` meets its contract. The invariant: the set so far is that of the vertices seen that stand. The measure is how many
--- vertices are left.
+-- `layers::rounds::standing` meets its contract. The invariant: the set so far is that of the vertices seen that stand.
 use mathlib.Core.Path.{◌≡◌}
 use mathlib.Core.List.{[]}
-use Prim.Native.Nat.{◌+◌, ◌-◌, ◌≤◌}
 use Rattle.sets.specs.Sets.{set_of}
 use Rattle.planning.specs.Rounds.{listed_steps}
 use Rattle.planning.specs.Layers.{stands}
@@ -10,7 +8,4 @@ use Rattle.layers.specs.Meaning.{layer}
 use Rattle.layers.proofs.rounds.standing.Given as goal
 
 abbrev pub invariant-loop-x : goal.invariant-loop-x
-invariant-loop-x l = (l.x ≤ 32 + l.count) × (l.set ≡ set_of l.x (stands 32 (listed_steps l.needs [] []) (layer l.facts l.words)))
-
-abbrev pub decreases-loop-x : goal.decreases-loop-x
-decreases-loop-x l = 32 + l.count - l.x
+invariant-loop-x l = l.set ≡ set_of l.x (stands 32 (listed_steps l.needs [] []) (layer l.facts l.words))

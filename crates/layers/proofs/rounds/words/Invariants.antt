@@ -1,6 +1,6 @@
--- `layers::rounds::words` meets its contract. The invariant: the words of the vertices below x are made. The measure is how many vertices are left.
+-- `layers::rounds::words` meets its contract. The invariant: the words of the vertices below x are made.
 use mathlib.Core.List.{List}
-use Prim.Native.Nat.{ℕ, ◌-◌, ◌≤◌}
+use Prim.Native.Nat.{ℕ}
 use Rattle.sets.proofs.Filled.{Filled}
 use Rattle.planning.specs.Rounds.{listed_steps}
 use Rattle.planning.specs.Layers.{mutex_word, rivals}
@@ -11,7 +11,4 @@ abbrev pub word_in : List ℕ → List ℕ → List ℕ → List ℕ → ℕ →
 word_in needs gives takes words members = mutex_word 64 members (rivals 32 (listed_steps needs gives takes) (layer 0 words))
 
 abbrev pub invariant-loop-x : goal.invariant-loop-x
-invariant-loop-x l = (l.x ≤ 64) × Filled 64 (word_in l.needs l.gives l.takes l.words l.members) l.all l.x
-
-abbrev pub decreases-loop-x : goal.decreases-loop-x
-decreases-loop-x l = 64 - l.x
+invariant-loop-x l = Filled 64 (word_in l.vertices.needs l.vertices.gives l.vertices.takes l.words l.members) l.all l.x

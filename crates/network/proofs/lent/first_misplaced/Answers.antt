@@ -1,56 +1,43 @@
-use mathlib.Core.Path.{◌≡◌, sym, ap, ◌∙◌}
-use mathlib.Core.List.{List, []}
-use Prim.Native.Nat.{ℕ, ◌+◌, ◌-◌}
+use mathlib.Core.Path.{sym, ap, ◌∙◌}
 use native.Mathlib.Omega.{arith}
 use lib.ListN.{get_or}
-use Rattle.sets.specs.Ranges.{list_to}
-use Rattle.sets.specs.First.{first_from}
-use Rattle.sets.proofs.First.{first-here, first-nowhere, left-start, left-next}
-use Rattle.network.specs.Network.{listed}
-use Rattle.network.specs.Groups.{first_misplaced, grouped}
+use borrow.Author.Count.{below_more}
+use Rattle.sets.proofs.First.{first_found, none_found}
+use Rattle.network.specs.Groups.{first_misplaced}
 use Rattle.network.specs.Meaning.{lent_by}
 use Rattle.network.proofs.MaskLaws.{masks-start, masks-length, masks-turn}
 use Rattle.network.proofs.LentLaws.{range}
 use Rattle.network.proofs.lent.first_misplaced.Invariants.{wrong}
 use Rattle.network.proofs.lent.first_misplaced.Goals as goal
 
--- all of them are left at first
-all : (n : ℕ) (clashes groups : List ℕ) → first_from (wrong n clashes groups) n (n - n) ≡ first_misplaced (listed n [] clashes) (λ v. get_or groups v 0)
-unfolding first_misplaced
-all n clashes groups = left-start (wrong n clashes groups) n
-
-pub loop-left-init : goal.loop-left-init
-loop-left-init c =
-    let a = c.args in
-    let none : 0 ≡ a.n - a.n = omega arith in
-    (omega arith, all a.n a.clashes.now a.groups.now, masks-start 64 (λ v. get_or a.groups.now v 0) ∙ ap (λ (u : ℕ). list_to 64 (grouped (λ v. get_or a.groups.now v 0) u)) none)
+pub loop-u-init : goal.loop-u-init
+loop-u-init c = (λ v l. absurd (omega arith), masks-start 64 (λ v. get_or c.args.groups.now v 0))
 
 pub returns-then-misplaced : goal.returns-then-misplaced
+unfolding first_misplaced
 returns-then-misplaced c =
     let a = c.args in
-    let l = c.loop-left in
-    ap lent_by (first-here (wrong a.n a.clashes.now a.groups.now) l.left (a.n - l.left) c.loop-left-test.true (sym c.misplaced.ensures ∙ c.if-misplaced.true) ∙ l.invariant.1)
+    let l = c.loop-u in
+    ap lent_by (first_found (wrong a.n a.clashes.now a.groups.now) a.n l.u c.loop-u-test.true l.invariant.0 (sym c.misplaced.ensures ∙ c.if-misplaced.true))
 
 pub enter-requires : goal.enter-requires
 enter-requires c =
-    let l = c.loop-left in
+    let l = c.loop-u in
     let a = c.args in
-    (range a.n a.clashes.now a.groups.now (a.n - l.left) 64 c.wide-g.result c.requires.0 c.wide-g.ensures (sym c.misplaced.ensures ∙ c.if-misplaced.false), omega (arith, c.requires.0, c.loop-left-test.true, l.invariant.0), masks-length 64 (λ v. get_or a.groups.now v 0) l.masks (a.n - l.left) l.invariant.2)
+    (range a.n a.clashes.now a.groups.now l.u 64 c.from.result c.requires.0 c.from.ensures (sym c.misplaced.ensures ∙ c.if-misplaced.false), omega (arith, c.requires.0, c.loop-u-test.true), masks-length 64 (λ v. get_or a.groups.now v 0) l.masks l.u l.invariant.1)
 
-pub loop-left-preserved : goal.loop-left-preserved
-loop-left-preserved c =
-    let l = c.loop-left in
+pub loop-u-preserved : goal.loop-u-preserved
+loop-u-preserved c =
+    let l = c.loop-u in
     let a = c.args in
-    let group : ℕ → ℕ = λ v. get_or a.groups.now v 0 in
-    let right = sym c.misplaced.ensures ∙ c.if-misplaced.false in
-    let next : a.n - l.left + 1 ≡ a.n - (l.left - 1) = omega (arith, l.invariant.0, c.loop-left-test.true) in (
-      omega (arith, l.invariant.0),
-      left-next (wrong a.n a.clashes.now a.groups.now) a.n l.left c.loop-left-test.true l.invariant.0 right ∙ l.invariant.1,
-      masks-turn 64 group l.masks c.enter.new.masks (a.n - l.left) c.wide-g.result l.invariant.2 c.wide-g.ensures (range a.n a.clashes.now a.groups.now (a.n - l.left) 64 c.wide-g.result c.requires.0 c.wide-g.ensures right) c.enter.ensures ∙ ap (λ (u : ℕ). list_to 64 (grouped group u)) next,
+    let right = sym c.misplaced.ensures ∙ c.if-misplaced.false in (
+      below_more _ _ l.invariant.0 right,
+      masks-turn 64 (λ v. get_or a.groups.now v 0) l.masks c.enter.new.masks l.u c.from.result l.invariant.1 c.from.ensures (range a.n a.clashes.now a.groups.now l.u 64 c.from.result c.requires.0 c.from.ensures right) c.enter.ensures,
     )
 
 pub returns : goal.returns
+unfolding first_misplaced
 returns c =
     let a = c.args in
-    let l = c.loop-left in
-    ap lent_by (first-nowhere (wrong a.n a.clashes.now a.groups.now) l.left (a.n - l.left) (omega (arith, c.loop-left-test.false)) ∙ l.invariant.1)
+    let l = c.loop-u in
+    ap lent_by (none_found (wrong a.n a.clashes.now a.groups.now) a.n (λ v h. l.invariant.0 v (omega arith)))

@@ -1,8 +1,6 @@
 -- `sets::ArticleSet::contains` meets its contract: at or above the capacity no number is a member.
 use borrow.Author.Rules.{rules}
-use mathlib.Core.Path.{sym, ap}
-use Prim.Native.Nat.{ℕ}
-use lib.Dec.{eqb}
+use mathlib.Core.Path.{sym}
 use Rattle.sets.proofs.Bits.{bit_high, member-no}
 use Rattle.sets.proofs.ArticleSet.contains.Goals as goal
 
@@ -11,6 +9,3 @@ returns-then-article-ge-CAPACITY c =
     let s = c.args.self.bits in
     let i = c.args.article in
     sym (member-no s i (bit_high s 64 i (search rules) c.if-article-ge-CAPACITY.true))
-
-pub returns : goal.returns
-returns c = ap (λ (b : ℕ). eqb b 1) c.bit_at.ensures

@@ -1,15 +1,8 @@
-use borrow.Author.Rules.{rules}
-use mathlib.Core.Path.{refl, ◌∙◌}
+use mathlib.Core.Path.{◌∙◌}
 use native.Mathlib.Omega.{arith}
 use lib.ListN.{length-set}
 use Rattle.sets.proofs.Tables.{mark-turn, mark-end}
 use Rattle.sets.proofs.table.mark.Goals as goal
-
-pub loop-left-init : goal.loop-left-init
-loop-left-init c = (c.requires.1, search rules, refl)
-
-pub lowest-i-requires : goal.lowest-i-requires
-lowest-i-requires c = c.loop-left-test.true
 
 pub loop-left-preserved : goal.loop-left-preserved
 loop-left-preserved c =

@@ -1,12 +1,8 @@
--- `sets::table::transposed` meets its contract. The invariant: each row has those numbers below j whose row has it. The measure is how many rows are left.
+-- `sets::table::transposed` meets its contract. The invariant: each row has those numbers below j whose row has it.
 use mathlib.Core.Path.{◌≡◌}
-use Prim.Native.Nat.{◌-◌, ◌≤◌}
 use Rattle.sets.specs.Ranges.{list_to}
 use Rattle.sets.proofs.Tables.{turned_row}
 use Rattle.sets.proofs.table.transposed.Given as goal
 
 abbrev pub invariant-loop-j : goal.invariant-loop-j
-invariant-loop-j l = (l.j ≤ 64) × (l.turned ≡ list_to 64 (turned_row l.j l.table))
-
-abbrev pub decreases-loop-j : goal.decreases-loop-j
-decreases-loop-j l = 64 - l.j
+invariant-loop-j l = l.turned ≡ list_to 64 (turned_row l.j l.table)

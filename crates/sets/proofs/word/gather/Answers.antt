@@ -1,21 +1,9 @@
-use borrow.Author.Rules.{rules}
 use mathlib.Core.Path.{sym, ◌∙◌}
 use native.Mathlib.Omega.{arith}
-use lib.Bits.{or_zero_l}
 use lib.ListN.{get_or}
-use Rattle.sets.specs.Sets.{gathered}
 use Rattle.sets.proofs.Lowest.{gathered-visit}
 use Rattle.sets.proofs.Made.{gathered-end}
 use Rattle.sets.proofs.word.gather.Goals as goal
-
-pub loop-left-init : goal.loop-left-init
-loop-left-init c = (search rules, or_zero_l (gathered 64 c.args.s (λ i. get_or c.args.table.now i 0)))
-
-pub lowest-i-requires : goal.lowest-i-requires
-lowest-i-requires c = c.loop-left-test.true
-
-pub rest-left-requires : goal.rest-left-requires
-rest-left-requires c = c.loop-left-test.true
 
 pub loop-left-preserved : goal.loop-left-preserved
 loop-left-preserved c =

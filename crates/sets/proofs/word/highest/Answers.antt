@@ -3,16 +3,8 @@ use borrow.Author.Rules.{rules}
 use Prim.Native.Nat.{ℕ, suc, ◌-◌, ◌^◌, ◌≤◌, ◌<◌}
 use mathlib.Core.Path.{◌≡◌, subst}
 use native.Mathlib.Omega.{arith}
-use lib.Count.{count_leading_zeros, leading_le, leading_top}
+use lib.Count.{count_leading_zeros, leading_top}
 use Rattle.sets.proofs.word.highest.Goals as goal
-
-pub overflow_cast-result : goal.overflow_cast-result
-overflow_cast-result c = omega (arith, leading_le 64 c.args.s)
-
-pub overflow_sub-result : goal.overflow_sub-result
-overflow_sub-result c =
-    let (j, e, low, high) = leading_top 64 c.args.s (omega (arith, c.requires)) (search rules) in
-    omega (arith, e)
 
 pub returns : goal.returns
 returns c =

@@ -6,8 +6,5 @@ use lib.Bits.{bit_or, or_zero_r}
 use Rattle.sets.specs.Ranges.{given}
 use Rattle.sets.proofs.word.more_if.Goals as goal
 
-pub returns-then-passed : goal.returns-then-passed
-returns-then-passed c = c.more.ensures ∙ sym (ap (λ (b : Bool). bit_or c.args.s (given b (2 ^ c.args.i))) c.if-passed.true)
-
 pub returns : goal.returns
 returns c = sym (ap (λ (b : Bool). bit_or c.args.s (given b (2 ^ c.args.i))) c.if-passed.false ∙ or_zero_r c.args.s)

@@ -1,8 +1,0 @@
--- `jobfile::no_choice` meets its contract.
-use mathlib.Core.Path.{refl}
-use Rattle.sets.specs.Ranges.{list_to}
-use Rattle.jobfile.proofs.no_choice.Goals as goal
-
-pub returns : goal.returns
-unfolding list_to
-returns c = refl

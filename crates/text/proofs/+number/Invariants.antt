@@ -1,5 +1,0 @@
--- `text::number` meets its contract. The measure is the number: its tenth is less.
-use Rattle.text.proofs.+number.Given as goal
-
-abbrev pub decreases-number : goal.decreases-number
-decreases-number l = l.n
