@@ -8,7 +8,7 @@ the last landing, a little less if a machine may see fewer.
 THERE = {
     "crates": 41,
     "programs": 6,
-    "must-fail edits": 299,
+    "must-fail edits": 310,
     "crates with must-fail edits": 33,
     "rows of the proved table": 180,
     "theorems of the demands": 55,

@@ -5,3 +5,4 @@ pub mod ChoiceLaws
 pub mod OfferLaws
 pub mod FittingLaws
 pub mod NameLaws
+pub mod SaveLaws

@@ -20,7 +20,7 @@ use Rattle.jobfile.specs.declared.ReadChoice.{ReadChoice}
 use Rattle.jobfile.specs.declared.ReadNames.{ReadNames}
 use Rattle.jobfile.specs.Job.{Job, column, size, wishes, clashes}
 use Rattle.jobfile.specs.Valid.{Bytes}
-use Rattle.jobfile.specs.Meaning.{as_choice, as_names, choice_read, names_read, spot_in, Few, ChoiceBounds, NamesBounds}
+use Rattle.jobfile.specs.Meaning.{as_choice, as_names, choice_read, names_read, spot_by, spot_in, Few, ChoiceBounds, NamesBounds}
 use Rattle.jobfile.specs.Read.{read, read_job, choices, either}
 use Rattle.jobfile.proofs.NamingLaws.{map_got, bytes_at, record_by, job_by, column-by, names_same, read_same}
 use Rattle.jobfile.proofs.ReadLaws.{names-spot}
@@ -49,7 +49,7 @@ module _ (f name : List ℕ) where
 
   -- the names that were read are short
   pub find-short : Bytes f → {r : ReadNames} → Ok r ≡ names_read (read spots either f) → NamesBounds f r → (i : ℕ) → get_or r.lens i 0 ≤ 32
-  find-short bytes {r} e (few, within, counted) i = lens-short either f bytes {r = r} e counted within i
+  find-short bytes {r} e (few, within, counted) i = lens-short either f bytes {v = Ok r} e counted within i
 
   -- the search was over n names, which are those of the job by their spots in the file
   pub find-made : {s : Said ℕ} {o : Option ℕ} {n : ℕ} (r : ReadNames) → Ok r ≡ names_read (read spots either f) → NamesBounds f r
@@ -62,7 +62,7 @@ module _ (f name : List ℕ) where
       p
       ∙ ap (λ (k : ℕ). lowest_named name k (λ i. take (get_or r.lens i 0) (drop (get_or r.starts i 0) f))) (all ∙ ap (λ x. x.count) t.told)
       ∙ search-cong name (size t.job) _ (λ i. get_or (map (λ r. r.name) (map (record_by f) t.job.records)) i [])
-      (λ i. ap (bytes_at f) (names-spot g e bounds.2 i ∙ ap (λ x. spot_in x i) t.is) ∙ sym (names_same f t.job.records i))
+      (λ i. ap (bytes_at f) (ap (λ v. spot_by v i) e ∙ names-spot g bounds.2 i ∙ ap (λ x. spot_in x i) t.is) ∙ sym (names_same f t.job.records i))
       )
       ∙ sym (ap (λ g. on_job g (λ job. find_in job name)) (read_same f either ∙ ap (map_got (job_by f)) t.is)))
 

@@ -71,7 +71,7 @@ module _ (f : List ℕ) (bytes : Bytes f) where
           heads = choice-head (get_or job.counts 1 0) job.heads stated.heads k;
           records = records number name above k;
         };
-    short = lens-short choices f bytes {r = as_names job} (sym (ap names_read e)) bounds.3 bounds.2;
+    short = lens-short choices f bytes {v = Ok (as_names job)} (sym (ap names_read e)) bounds.3 bounds.2;
     wishes-length = list_length 64 (λ i. get_or (column 0 job.records) i 0);
     clashes-length = list_length 64 (λ i. get_or (column 1 job.records) i 0);
   }

@@ -11,7 +11,8 @@ ghost use Rattle.drafts.specs.Meaning.{draft_by, stored_said};
 
 pub mod draft;
 
-use draft::{Draft, PAGE};
+pub use draft::Draft;
+use draft::PAGE;
 use jobfile::ReadChoice;
 use reading::Refusal;
 

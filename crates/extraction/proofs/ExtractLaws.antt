@@ -6,6 +6,7 @@ use mathlib.Core.List.{List}
 use Prim.Native.Nat.{ℕ, zero, suc, ◌+◌, ◌-◌, ◌*◌, ◌/◌, ◌^◌, ◌≤◌, ◌<◌, max}
 use native.Mathlib.Nat.{le_trans}
 use native.Mathlib.Omega.{arith}
+use Rattle.std.specs.Prelude as code
 use lib.Bits.{bit_or}
 use lib.Dec.{eqb}
 use lib.ListN.{length, get_or, set}
@@ -15,8 +16,12 @@ use Rattle.sets.proofs.Bits.{bit_le, bit-cases, bit-empty, bit-or, bit-without, 
 use Rattle.sets.proofs.Made.{gathered-at, gathered-from}
 use Rattle.network.specs.Network.{Network, listed, Cover}
 use Rattle.network.specs.Tables.{Tabled}
+use Rattle.choice.specs.Choice.{smallest}
+use Rattle.choice.specs.Search.{Finds}
+use Rattle.choice.specs.Meaning.{found_by}
 use Rattle.choice.proofs.CoverLaws.{widened}
 use Rattle.supports.specs.Supports.{row_of, Opens, Uncovered}
+use Rattle.supports.proofs.LayerLaws.{asked}
 use Rattle.extraction.specs.Extraction.{all_facts, Graph, Picks, needs_of, Back, Held, Fine, Nogoods, StoredIf, Blocked, Lacking, Refutes}
 use Rattle.extraction.proofs.NogoodLaws.{stored-if, whole-box}
 
@@ -32,6 +37,11 @@ lacking-part s a f z h = in-part s (without a (2 ^ f)) (λ i m. less-in a f i (p
 -- a cover of g covers a part of g
 pub cover-part : (N : Network) {allowed x : ℕ} (g h : ℕ) → h ⊆ g → Cover N allowed g x → Cover N allowed h x
 cover-part N g h p c = record { within = c.within; free = c.free; covers = λ i. le_trans (p i) (c.covers i) }
+
+-- a selection that a question is answered with covers the facts
+pub asked-set : (N : Network) (allowed need : ℕ) {r : code.Option ℕ} {x : ℕ} → allowed < 2 ^ N.articles → r ≡ found_by (smallest N allowed need 0) → r ≡ code.Some x
+    → Cover N allowed need x
+asked-set N allowed need h e q = subst (λ (f : code.Option ℕ). Finds N allowed need f) q (asked N allowed need h e)
 
 module _ (T : Graph) where
   -- the network of round layer j + 1

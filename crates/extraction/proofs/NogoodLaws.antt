@@ -1,14 +1,16 @@
 -- The table of nogoods: what an entry refutes, and that a table stays right if an entry is added. Last, the test of the whole box.
 -- Assumes nothing.
-use mathlib.Core.Path.{◌≡◌, refl, sym, ap, subst}
-use mathlib.Core.Logic.{◌⊎◌, inl, inr}
-use mathlib.Core.Bool.{Bool, true, false, ◌&&◌}
+use mathlib.Core.Path.{◌≡◌, refl, sym, ap, subst, ◌∙◌}
+use mathlib.Core.Logic.{◌⊎◌, inl, inr, ◌≢◌}
+use mathlib.Core.Bool.{Bool, true, false, not, ◌&&◌, true≢false}
 use mathlib.Core.List.{List}
 use Prim.Native.Nat.{ℕ, ◌+◌, ◌*◌, ◌/◌, ◌%◌, ◌^◌, ◌≤◌, ◌<◌}
+use native.Mathlib.Decide.{ℕ_discrete}
 use native.Mathlib.Omega.{arith}
 use lib.Dec.{eqb}
-use lib.ListN.{length, get_or, replicate}
-use borrow.Author.Tests.{eqb-true}
+use lib.ListN.{length, get_or, set, replicate, length-set}
+use lib.Seq.{get_or-set_same, get_or-set_other}
+use borrow.Author.Tests.{eq-eqb, ne_eqb, eqb-true}
 use Rattle.sets.specs.Sets.{◌⊆◌, without}
 use Rattle.sets.proofs.Ranges.{both_true, zeros}
 use Rattle.sets.proofs.Bits.{without-part}
@@ -61,6 +63,32 @@ pub empty-nogoods : (T : Graph) (n : ℕ) → Nogoods T (replicate {A = ℕ} n 0
 unfolding Nogoods
 empty-nogoods T n i pos r = absurd (omega (arith, ap (λ (y : ℕ). y / 2 ^ 32) (zeros n i)))
 
+-- ---- what is written
+
+-- a table left as it is
+pub stored-none : (on : Bool) (k e : ℕ) (table : List ℕ) → StoredIf on k e table table
+stored-none true k e table = λ i pos. inl refl
+stored-none false k e table = refl
+
+-- the pair written at one place, after entry 0, which is no pair, was written
+entered : (k e : ℕ) (table : List ℕ) (x at : ℕ) → at < length table → Stored k e table (set (set table 0 x) at (k * 2 ^ 32 + e))
+entered k e table x at l i pos = go (ℕ_discrete i at)
+  where
+    first : List ℕ
+    first = set table 0 x
+
+    pair : ℕ
+    pair = k * 2 ^ 32 + e
+
+    go : Dec (i ≡ at) → (get_or (set first at pair) i 0 ≡ get_or table i 0) ⊎ (get_or (set first at pair) i 0 ≡ pair)
+    go (yes q) = inr (ap (λ (j : ℕ). get_or (set first at pair) j 0) q ∙ get_or-set_same first at pair 0 (omega (arith, length-set table 0 x)))
+    go (no d) = inl (get_or-set_other first at i pair 0 d ∙ get_or-set_other table 0 i x 0 (λ q. let z : ⊥ = omega (arith, q) in z))
+
+-- the same, after the test that `store` makes
+pub stored_at : (on : Bool) (k e : ℕ) (table : List ℕ) (x at : ℕ) → not on ≡ false → at < length table → StoredIf on k e table (set (set table 0 x) at (k * 2 ^ 32 + e))
+stored_at true k e table x at t l = entered k e table x at l
+stored_at false k e table x at t l = absurd (true≢false t)
+
 -- ---- the whole box
 
 -- if the test passes, the box is the whole
@@ -68,3 +96,10 @@ pub whole-box : (may all must : ℕ) → (eqb may all && eqb must 0) ≡ true �
 whole-box may all must t =
     let (same, none) = both_true (eqb may all) (eqb must 0) t in
     (eqb-true may all same, eqb-true must 0 none)
+
+-- the test as `whole` makes it, one comparison after the other
+pub whole-not : (may all must : ℕ) → may ≢ all → false ≡ (eqb may all && eqb must 0)
+whole-not may all must d = sym (ap (λ (b : Bool). b && eqb must 0) (ne_eqb may all d))
+
+pub whole-if : (may all must : ℕ) → may ≡ all → eqb must 0 ≡ (eqb may all && eqb must 0)
+whole-if may all must e = sym (ap (λ (b : Bool). b && eqb must 0) (eq-eqb may all e))

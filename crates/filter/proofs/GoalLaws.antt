@@ -3,7 +3,7 @@ use mathlib.Core.Path.{◌≡◌, refl, sym, ap, ◌∙◌}
 use mathlib.Core.Bool.{Bool, true, false, not, ◌||◌, cond, true≢false}
 use mathlib.Core.List.{List, [], ◌∷◌}
 use mathlib.Core.Option.{none}
-use Prim.Native.Nat.{ℕ, suc, ◌+◌, ◌^◌, ◌<◌}
+use Prim.Native.Nat.{ℕ, suc, ◌+◌, ◌-◌, ◌^◌, ◌<◌}
 use native.Mathlib.Numerals.{add-one}
 use native.Mathlib.Omega.{arith}
 use lib.Dec.{leb, eqb}
@@ -13,7 +13,7 @@ use Rattle.sets.specs.Sets.{◌⊆◌, without, part}
 use Rattle.sets.specs.First.{first_from}
 use Rattle.sets.proofs.Bits.{yes-part}
 use Rattle.sets.specs.Handed.{handed_by}
-use Rattle.sets.proofs.First.{first-hit, first-miss, first-none}
+use Rattle.sets.proofs.First.{left-start, first-hit, first-miss, first-none}
 use Rattle.std.specs.List.{position, position_from}
 use Rattle.std.specs.Prelude.{Some}
 use Rattle.std.proofs.lemmas.Iterator.Adapters.{position_from-zero}
@@ -32,6 +32,11 @@ module _ (order p : ℕ) where
   pub bad-part : (p ≡ 0 → ⊥) → {r : ℕ} → r ≡ without p order → not (eqb r 0) ≡ bad_goal order p
   unfolding bad_goal part
   bad-part d e = ap (λ (x : ℕ). not (eqb x 0)) e ∙ sym (ap (λ t. t || not (eqb (without p order) 0)) (ne_eqb p 0 d))
+
+-- all goals are left at first
+pub all_left : (order : ℕ) (goals : List ℕ) → first_from (λ i. bad_goal order (get_or goals i 0)) (length goals) (length goals - length goals) ≡ first_bad order goals
+unfolding first_bad
+all_left order goals = left-start (λ i. bad_goal order (get_or goals i 0)) (length goals)
 
 -- ---- the first goal that is refused, as the code finds it
 

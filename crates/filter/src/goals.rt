@@ -27,5 +27,7 @@ pub fn bad_goal(order: u64, goal: u64) -> bool
 pub fn first_bad(order: u64, goals: &[u64]) -> Option<usize>
     ensures { result ≡ goals_by (first_bad order goals.now) }
 {
-    goals.iter().position(|goal| bad_goal(order, *goal))
+    // The place has a name, so that a wrong one is refused by its number.
+    let place = goals.iter().position(|goal| bad_goal(order, *goal))?;
+    Some(place)
 }

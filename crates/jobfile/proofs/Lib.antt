@@ -6,6 +6,7 @@ pub mod FileLaws
 pub mod Theorems
 pub mod StatedLaws
 pub mod ColumnLaws
+pub mod StepLaws
 pub mod ReadLaws
 pub mod NamingLaws
 pub mod ShortLaws

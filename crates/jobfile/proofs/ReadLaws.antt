@@ -2,8 +2,8 @@
 use mathlib.Core.Path.{◌≡◌, refl, ap, sym, ◌∙◌, subst}
 use mathlib.Core.Bool.{Bool, true, false, ◌||◌}
 use mathlib.Core.List.{List, [], ◌∷◌, map}
-use Rattle.std.specs.Prelude.{Ok, Err}
-use Prim.Native.Nat.{ℕ, ◌^◌, ◌≤◌, ◌<◌}
+use Rattle.std.specs.Prelude.{Result, Ok, Err, IfOk}
+use Prim.Native.Nat.{ℕ, ◌^◌, ◌≤◌, ◌<◌, zero-le}
 use native.Mathlib.Decide.{dec_lt}
 use native.Mathlib.Omega.{arith}
 use lib.Dec.{eqb, lit<}
@@ -25,8 +25,10 @@ use Rattle.jobfile.specs.Layout.{choice, fitting, kinds, layout_in}
 use Rattle.jobfile.specs.Job.{Record, Job, names_of, wish_count, prices, takes}
 use Rattle.jobfile.specs.Read.{record_at, body_at, layout_at, read, choices, fittings, either}
 use Rattle.jobfile.specs.Valid.{Bytes}
-use Rattle.reading.specs.Meaning.{got_by, finished}
-use Rattle.jobfile.specs.Meaning.{lens_of, spot_of, spot_in, record_from, records_of, Column, Columns, padded, starts_of, choice_read, fitting_read, names_read, Few, ChoiceBounds, FittingBounds, NamesBounds}
+use Rattle.reading.specs.Meaning.{got_by, read_from, finished}
+use Rattle.jobfile.specs.Meaning.{lens_of, spot_of, spot_by, spot_in, record_from, records_of, Column, Columns, padded, starts_of, choice_read, fitting_read, names_read, Few, ChoiceBounds, FittingBounds, NamesBounds}
+use Rattle.reading.proofs.StepLaws.{each_none, each_more}
+use Rattle.jobfile.proofs.StepLaws.{body_is, file-is}
 use Rattle.jobfile.proofs.NamingLaws.{map_got, record_by, job_by, read_same, after-by}
 use Rattle.jobfile.proofs.StatedLaws.{amounts-below, choice-stated}
 
@@ -51,9 +53,33 @@ padded-below size bound l some h i = go (dec_lt i size)
     go (yes k) = omega (arith, list_at size (λ j. get_or l j 0) 0 i k, h i)
     go (no k) = omega (arith, list-past size (λ j. get_or l j 0) 0 i (omega arith))
 
+-- if nothing was read, every element is 0
+pub nothing-there : (i : ℕ) → get_or (padded 64 []) i 0 ≡ 0
+nothing-there i = padded-at 64 [] zero-le i
+
 -- the records that the columns hold
 abbrev held : Kind → ℕ → Records → List (Record Spot)
 held kind n r = list_to n (record_from kind r.first r.second r.third r.starts r.lens)
+
+-- ---- a reading up to the end of the file
+
+module _ {A : Type 0} (value : A) (f : List ℕ) (next : Result ℕ Refusal) {end : Result ℕ Refusal} {whole : Got A}
+    (e : end ≡ finished (length f) next) (told : read_from (finished (length f) next) (λ at. got value (length f)) ≡ whole) where
+  end_refused : {r : Refusal} → end ≡ Err r → refused r.reason r.place ≡ whole
+  end_refused q = ap (λ c. read_from c (λ at. got value (length f))) (sym q ∙ e) ∙ told
+
+-- the records that were found, none if they are refused, and where reading is after them
+abbrev found_by : Kind → ℕ → Result Records Refusal → List (Record Spot)
+found_by kind n (Ok r) = held kind n r
+found_by kind n (Err e) = []
+
+abbrev after_by : Result Records Refusal → Result ℕ Refusal
+after_by (Ok r) = Ok r.next
+after_by (Err e) = Err e
+
+found-are : (kind : Kind) (n : ℕ) (found : Result Records Refusal) → got_by (found_by kind n found) (after_by found) ≡ records_of kind n found
+found-are kind n (Ok r) = refl
+found-are kind n (Err e) = refl
 
 -- ---- a choice file
 
@@ -65,9 +91,32 @@ prices-below f bytes job e i =
     let below = amounts-below choice (wish_count job) 0 4 refl 0 (map (record_by f) job.records) stated.records in
     padded-below 64 (2 ^ 32) (prices job) (lit< tt) (λ j. subst (λ (l : List ℕ). get_or l j 0 < 2 ^ 32) (after-by f 0 job.records) (below j)) i
 
+-- it was refused, at an item or at its end
+module _ (f : List ℕ) (n w order : ℕ) (found : Result Records Refusal) (a b c d : Result ℕ Refusal)
+    (kind : got_by 67 a ≡ kind_at choices f 0) (first : got_by n b ≡ read_from a (count_at 1 64 f)) (second : got_by w c ≡ read_from b (count_at 1 64 f))
+    (head : got_by order d ≡ read_from c (set_at 8 w f)) (each : records_of Choice n found ≡ read_from d (each_at (record_at spots choice w) (up_from n 0) f)) where
+  choice_found : Job Spot
+  choice_found = record { kind = 67; counts = n ∷ w ∷ []; heads = order ∷ []; records = found_by Choice n found }
+
+  choice-found : read_from (finished (length f) (after_by found)) (λ at. got choice_found (length f)) ≡ read spots choices f
+  unfolding choice_found choice kinds layout_in
+  choice-found =
+      file-is spots choices f 67 choice choice_found a (after_by found) kind refl
+      (body_is spots choice f (n ∷ w ∷ []) (order ∷ []) (found_by Choice n found) c d (after_by found) a
+      (each_more (λ c. count_at c.bytes c.limit) f (record { bytes = 1; limit = 64 }) (record { bytes = 1; limit = 64 } ∷ []) n (w ∷ []) b c a first
+      (each_more (λ c. count_at c.bytes c.limit) f (record { bytes = 1; limit = 64 }) [] w [] c c b second (each_none (λ c. count_at c.bytes c.limit) f c)))
+      (each_more (λ bytes. set_at bytes w) f 8 [] order [] d d c head (each_none (λ bytes. set_at bytes w) f d))
+      (found-are Choice n found ∙ each))
+
+  pub choice-refused : {end : Result ℕ Refusal} {r : Refusal} {x : Result ReadChoice Refusal} → end ≡ finished (length f) (after_by found) → end ≡ Err r → x ≡ choice_read (refused r.reason r.place)
+      → (x ≡ choice_read (read spots choices f)) × IfOk x (ChoiceBounds f) × Few 64 (read spots choices f)
+  choice-refused {end} {r} {x} e q h =
+      let told = end_refused choice_found f (after_by found) e choice-found q in
+      (h ∙ ap choice_read told, rw h tt, subst (Few 64) told tt)
+
 -- it was accepted: its items, one after the other
-module _ (f : List ℕ) (n w order a b c d : ℕ) (found : Records) {u : Unit {0}} (kind : got_by 67 (Ok a) ≡ kind_at choices f 0) (first : got n b ≡ count_at 1 64 f a) (second : got w c ≡ count_at 1 64 f b)
-    (head : got order d ≡ set_at 8 w f c) (each : records_of Choice n (Ok found) ≡ each_at (record_at spots choice w) (up_from n 0) f d) (end : Ok u ≡ finished (length f) found.next) where
+module _ (f : List ℕ) (n w order a b c d : ℕ) (found : Records) {u : ℕ} (kind : got_by 67 (Ok a) ≡ kind_at choices f 0) (first : got n b ≡ count_at 1 64 f a) (second : got w c ≡ count_at 1 64 f b)
+    (head : got order d ≡ set_at 8 w f c) (each : records_of Choice n (Ok found) ≡ each_at (record_at spots choice w) (up_from n 0) f d) (end : Ok u ≡ finished (length f) (Ok found.next)) where
   choice_job : Job Spot
   choice_job = record { kind = 67; counts = n ∷ w ∷ []; heads = order ∷ []; records = held Choice n found }
 
@@ -93,9 +142,34 @@ module _ (f : List ℕ) (n w order a b c d : ℕ) (found : Records) {u : Unit {0
 
 -- ---- a fitting file
 
-module _ (f : List ℕ) (n m rounds begin goal a b c d e₁ g : ℕ) (found : Records) {u : Unit {0}} (kind : got_by 70 (Ok a) ≡ kind_at fittings f 0) (first : got n b ≡ count_at 1 32 f a)
+module _ (f : List ℕ) (n m rounds begin goal : ℕ) (found : Result Records Refusal) (a b c d e₁ g : Result ℕ Refusal)
+    (kind : got_by 70 a ≡ kind_at fittings f 0) (first : got_by n b ≡ read_from a (count_at 1 32 f)) (second : got_by m c ≡ read_from b (count_at 1 32 f))
+    (third : got_by rounds d ≡ read_from c (count_at 1 16 f)) (head : got_by begin e₁ ≡ read_from d (set_at 4 m f)) (aim : got_by goal g ≡ read_from e₁ (set_at 4 m f))
+    (each : records_of Fitting n found ≡ read_from g (each_at (record_at spots fitting m) (up_from n 0) f)) (bytes : Bytes f) where
+  fitting_found : Job Spot
+  fitting_found = record { kind = 70; counts = n ∷ m ∷ rounds ∷ []; heads = begin ∷ goal ∷ []; records = found_by Fitting n found }
+
+  fitting-found : read_from (finished (length f) (after_by found)) (λ at. got fitting_found (length f)) ≡ read spots fittings f
+  unfolding fitting_found choice fitting kinds layout_in
+  fitting-found =
+      file-is spots fittings f 70 fitting fitting_found a (after_by found) kind refl
+      (body_is spots fitting f (n ∷ m ∷ rounds ∷ []) (begin ∷ goal ∷ []) (found_by Fitting n found) d g (after_by found) a
+      (each_more (λ c. count_at c.bytes c.limit) f (record { bytes = 1; limit = 32 }) (record { bytes = 1; limit = 32 } ∷ record { bytes = 1; limit = 16 } ∷ []) n (m ∷ rounds ∷ []) b d a first
+      (each_more (λ c. count_at c.bytes c.limit) f (record { bytes = 1; limit = 32 }) (record { bytes = 1; limit = 16 } ∷ []) m (rounds ∷ []) c d b second
+      (each_more (λ c. count_at c.bytes c.limit) f (record { bytes = 1; limit = 16 }) [] rounds [] d d c third (each_none (λ c. count_at c.bytes c.limit) f d))))
+      (each_more (λ bytes. set_at bytes m) f 4 (4 ∷ []) begin (goal ∷ []) e₁ g d head
+      (each_more (λ bytes. set_at bytes m) f 4 [] goal [] g g e₁ aim (each_none (λ bytes. set_at bytes m) f g)))
+      (found-are Fitting n found ∙ each))
+
+  pub fitting-refused : {end : Result ℕ Refusal} {r : Refusal} {x : Result ReadFitting Refusal} → end ≡ finished (length f) (after_by found) → end ≡ Err r → x ≡ fitting_read (refused r.reason r.place)
+      → (x ≡ fitting_read (read spots fittings f)) × IfOk x (FittingBounds f) × Few 32 (read spots fittings f) × Bytes f
+  fitting-refused {end} {r} {x} e q h =
+      let told = end_refused fitting_found f (after_by found) e fitting-found q in
+      (h ∙ ap fitting_read told, rw h tt, subst (Few 32) told tt, bytes)
+
+module _ (f : List ℕ) (n m rounds begin goal a b c d e₁ g : ℕ) (found : Records) {u : ℕ} (kind : got_by 70 (Ok a) ≡ kind_at fittings f 0) (first : got n b ≡ count_at 1 32 f a)
     (second : got m c ≡ count_at 1 32 f b) (third : got rounds d ≡ count_at 1 16 f c) (head : got begin e₁ ≡ set_at 4 m f d) (aim : got goal g ≡ set_at 4 m f e₁)
-    (each : records_of Fitting n (Ok found) ≡ each_at (record_at spots fitting m) (up_from n 0) f g) (end : Ok u ≡ finished (length f) found.next) where
+    (each : records_of Fitting n (Ok found) ≡ each_at (record_at spots fitting m) (up_from n 0) f g) (end : Ok u ≡ finished (length f) (Ok found.next)) where
   fitting_job : Job Spot
   fitting_job = record { kind = 70; counts = n ∷ m ∷ rounds ∷ []; heads = begin ∷ goal ∷ []; records = held Fitting n found }
 
@@ -143,6 +217,10 @@ either-choice names f e = read_by names either choices f (go (eqb (get_or f 0 0)
     go true = refl
     go false = e
 
+-- after the end of the columns there is nothing
+pub spot_past : (starts lens : List ℕ) (i : ℕ) → length starts ≡ 64 → length lens ≡ 64 → 64 ≤ i → record { start = 0; len = 0 } ≡ spot_of starts lens i
+spot_past starts lens i p q h = rw (get_or-eq_default starts 0 {n = i} (omega arith), get_or-eq_default lens 0 {n = i} (omega arith))
+
 -- the columns of names hold the spots: h is the start or the length
 name-part : (h : Spot → ℕ) → h spots.absent ≡ 0 → (records : List (Record Spot)) → length records ≤ 64 → (i : ℕ)
     → get_or (padded 64 (map (λ r. h r.name) records)) i 0 ≡ h (get_or (names_of records) i spots.absent)
@@ -156,32 +234,25 @@ name-part h z records few i =
 spot-at : (records : List (Record Spot)) → length records ≤ 64 → (i : ℕ) → spot_of (padded 64 (starts_of records)) (padded 64 (lens_of records)) i ≡ get_or (names_of records) i spots.absent
 spot-at records few i = rw (name-part (λ s. s.start) refl records few i, name-part (λ s. s.len) refl records few i)
 
-pub names-spot : (g : Got (Job Spot)) {r : ReadNames} → Ok r ≡ names_read g → Few 64 g → (i : ℕ) → spot_of r.starts r.lens i ≡ spot_in g i
-names-spot (refused reason place) e few i = cc
-names-spot (got job end) {r} e few i =
-    let same : spot_of r.starts r.lens i ≡ spot_of (padded 64 (starts_of job.records)) (padded 64 (lens_of job.records)) i = cc in
-    same ∙ spot-at job.records (omega (arith, few.0, few.1)) i
+-- names as read, accepted or not, hold the spots
+pub names-spot : (g : Got (Job Spot)) → Few 64 g → (i : ℕ) → spot_by (names_read g) i ≡ spot_in g i
+names-spot (refused reason place) few i = refl
+names-spot (got job end) few i = spot-at job.records (omega (arith, few.0, few.1)) i
 
--- a file of either kind is read as its first byte says
+-- n names of what was read, or the refusal
+abbrev fitting_names : Result ReadFitting Refusal → ℕ → Result ReadNames Refusal
+fitting_names (Ok r) n = Ok (record { count = n; starts = r.starts; lens = r.lens })
+fitting_names (Err e) n = Err e
+
+abbrev choice_names : Result ReadChoice Refusal → ℕ → Result ReadNames Refusal
+choice_names (Ok r) n = Ok (record { count = n; starts = r.starts; lens = r.lens })
+choice_names (Err e) n = Err e
+
+-- a file of either kind, accepted or not, is read as its first byte says
 module _ (f : List ℕ) {b : Bool} (kind : b ≡ eqb (get_or f 0 0) 70) where
-  pub fitting-unnamed : {e : Refusal} → b ≡ true → Err e ≡ fitting_read (read spots fittings f) → (Err e ≡ names_read (read spots either f)) × Few 64 (read spots either f)
-  fitting-unnamed {e} t told = rw (either-fitting spots f (sym kind ∙ t)) (go (read spots fittings f) told)
-    where
-      go : (g : Got (Job Spot)) → Err e ≡ fitting_read g → (Err e ≡ names_read g) × Few 64 g
-      go (refused reason place) told = (cc, tt)
-      go (got job end) told = cc
-
-  pub choice-unnamed : {e : Refusal} → b ≡ false → Err e ≡ choice_read (read spots choices f) → (Err e ≡ names_read (read spots either f)) × Few 64 (read spots either f)
-  choice-unnamed {e} t told = rw (either-choice spots f (sym kind ∙ t)) (go (read spots choices f) told)
-    where
-      go : (g : Got (Job Spot)) → Err e ≡ choice_read g → (Err e ≡ names_read g) × Few 64 g
-      go (refused reason place) told = (cc, tt)
-      go (got job end) told = cc
-
-  pub fitting-names : {r : ReadFitting} {n : ℕ} → b ≡ true → Ok r ≡ fitting_read (read spots fittings f) → FittingBounds f r → n ≡ r.steps
-      → let x : ReadNames = record { count = n; starts = r.starts; lens = r.lens } in
-      (Ok x ≡ names_read (read spots either f)) × NamesBounds f x × Few 64 (read spots either f)
-  fitting-names {r} {n} t e (steps, facts, rounds, within, few, bytes) all =
+  pub fitting-names : {r : Result ReadFitting Refusal} (n : ℕ) → b ≡ true → r ≡ fitting_read (read spots fittings f) → IfOk r (FittingBounds f) → IfOk r (λ x. n ≡ x.steps)
+      → (fitting_names r n ≡ names_read (read spots either f)) × IfOk (fitting_names r n) (NamesBounds f) × Few 64 (read spots either f)
+  fitting-names {r = Ok r} n t e (steps, facts, rounds, within, few, bytes) all =
       let same = either-fitting spots f (sym kind ∙ t) in
       let more = go (read spots fittings f) e few in
       rw same (more.0, (omega arith, within, more.1), more.1)
@@ -189,14 +260,23 @@ module _ (f : List ℕ) {b : Bool} (kind : b ≡ eqb (get_or f 0 0) 70) where
       go : (g : Got (Job Spot)) → Ok r ≡ fitting_read g → Few 32 g → (Ok (record { count = n; starts = r.starts; lens = r.lens }) ≡ names_read g) × Few 64 g
       go (refused reason place) e few = cc
       go (got job end) e few = (cc, (few.0, omega (arith, few.1)))
+  fitting-names {r = Err x} n t e bounds all = rw (either-fitting spots f (sym kind ∙ t)) (go (read spots fittings f) e)
+    where
+      go : (g : Got (Job Spot)) → Err x ≡ fitting_read g → (Err x ≡ names_read g) × Unit {0} × Few 64 g
+      go (refused reason place) e = (cc, tt, tt)
+      go (got job end) e = cc
 
-  pub choice-names : {r : ReadChoice} {n : ℕ} → b ≡ false → Ok r ≡ choice_read (read spots choices f) → ChoiceBounds f r → n ≡ r.articles
-      → let x : ReadNames = record { count = n; starts = r.starts; lens = r.lens } in
-      (Ok x ≡ names_read (read spots either f)) × NamesBounds f x × Few 64 (read spots either f)
-  choice-names {r} {n} t e (articles, wanted, within, few, priced) all =
+  pub choice-names : {r : Result ReadChoice Refusal} (n : ℕ) → b ≡ false → r ≡ choice_read (read spots choices f) → IfOk r (ChoiceBounds f) → IfOk r (λ x. n ≡ x.articles)
+      → (choice_names r n ≡ names_read (read spots either f)) × IfOk (choice_names r n) (NamesBounds f) × Few 64 (read spots either f)
+  choice-names {r = Ok r} n t e (articles, wanted, within, few, priced) all =
       let same = either-choice spots f (sym kind ∙ t) in
       rw same (go (read spots choices f) e, (omega arith, within, few), few)
     where
       go : (g : Got (Job Spot)) → Ok r ≡ choice_read g → Ok (record { count = n; starts = r.starts; lens = r.lens }) ≡ names_read g
       go (refused reason place) e = cc
+      go (got job end) e = cc
+  choice-names {r = Err x} n t e bounds all = rw (either-choice spots f (sym kind ∙ t)) (go (read spots choices f) e)
+    where
+      go : (g : Got (Job Spot)) → Err x ≡ choice_read g → (Err x ≡ names_read g) × Unit {0} × Few 64 g
+      go (refused reason place) e = (cc, tt, tt)
       go (got job end) e = cc

@@ -2,11 +2,12 @@
 use mathlib.Core.Path.{◌≡◌, refl, sym, ap, subst, ◌∙◌}
 use mathlib.Core.Bool.{Bool}
 use mathlib.Core.List.{List, [], ◌∷◌}
-use Prim.Native.Nat.{ℕ, zero, suc, ◌≤◌}
+use Prim.Native.Nat.{ℕ, zero, suc, ◌≤◌, zero-le}
 use native.Mathlib.Omega.{arith}
 use lib.ListN.{length, get_or, drop, length-drop}
 use lib.Seq.{length-take-le}
-use Rattle.std.specs.Prelude.{Ok}
+use Rattle.std.specs.Prelude.{Result, Ok, Err, IfOk}
+use Rattle.reading.specs.declared.Refusal.{Refusal}
 use Rattle.jobfile.specs.declared.ReadNames.{ReadNames}
 use Rattle.reading.specs.Got.{Got, got, refused}
 use Rattle.reading.specs.Items.{spots}
@@ -14,7 +15,7 @@ use Rattle.jobfile.specs.Layout.{Layout, choice, fitting, kinds}
 use Rattle.jobfile.specs.Job.{Record, Job, names_of}
 use Rattle.jobfile.specs.Read.{read, read_job}
 use Rattle.jobfile.specs.Valid.{AllFrom, Bytes, ValidRecord}
-use Rattle.jobfile.specs.Meaning.{names_read, Few, NamesWithin, name_in}
+use Rattle.jobfile.specs.Meaning.{names_read, spot_by, Few, NamesWithin, name_in}
 use Rattle.jobfile.proofs.Lawful.{All}
 use Rattle.jobfile.proofs.FileLaws.{layout-found}
 use Rattle.jobfile.proofs.Theorems.{valid}
@@ -42,13 +43,14 @@ module _ (takes : ℕ → Bool) (f : List ℕ) (bytes : Bytes f) where
           subst (λ (n : ℕ). length (get_or (names_of job.records) i []) ≤ n) (layout-found (λ layout. layout.longest ≡ 32) kinds job.kind longest ok.known).1
           (each-short ok.layout (get_or job.counts 1 0) 0 job.records ok.records i)
 
-  -- a name within the file is as long as its spot says
-  pub lens-short : {r : ReadNames} → Ok r ≡ names_read (read spots takes f) → Few 64 (read spots takes f) → NamesWithin (length f) r.starts r.lens
-      → (i : ℕ) → get_or r.lens i 0 ≤ 32
-  lens-short {r} e few within i =
+  -- a name within the file is as long as its spot says, and that of a refused file has the length 0
+  pub lens-short : {v : Result ReadNames Refusal} → v ≡ names_read (read spots takes f) → Few 64 (read spots takes f) → IfOk v (λ r. NamesWithin (length f) r.starts r.lens)
+      → (i : ℕ) → (spot_by v i).len ≤ 32
+  lens-short {v = Ok r} e few within i =
       omega (
         arith,
         name-short i,
-        ap length (name-at-spot f takes i ∙ ap (bytes_at f) (sym (names-spot (read spots takes f) e few i))),
+        ap length (name-at-spot f takes i ∙ ap (bytes_at f) (sym (ap (λ v. spot_by v i) e ∙ names-spot (read spots takes f) few i))),
         length-take-le (get_or r.lens i 0) (drop (get_or r.starts i 0) f) (rw (length-drop (get_or r.starts i 0) f) (omega (arith, within i))),
       )
+  lens-short {v = Err x} e few within i = zero-le

@@ -129,6 +129,11 @@ Few limit (got job end) = (length job.records ≡ size job) × (size job ≤ lim
 abbrev pub spot_of : List ℕ → List ℕ → ℕ → Spot
 spot_of starts lens i = record { start = get_or starts i 0; len = get_or lens i 0 }
 
+-- the spot of the name of record i of the names as read: 0 and 0 if the file is refused
+abbrev pub spot_by : Result ReadNames Refusal → ℕ → Spot
+spot_by (Ok r) i = spot_of r.starts r.lens i
+spot_by (Err e) i = record { start = 0; len = 0 }
+
 -- the spot of the name of record i: 0 and 0 if the file is refused, if it has no record i, or if that has no name
 abbrev pub spot_in : Got (Job Spot) → ℕ → Spot
 spot_in (refused reason place) i = record { start = 0; len = 0 }

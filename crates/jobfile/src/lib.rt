@@ -83,11 +83,11 @@ pub fn read_choice(file: &[u8]) -> Result<ReadChoice, Refusal>
     ensures few { Few 64 (read spots choices file.now) }
 {
     let at = item::kind(file, CHOICE)?;
-    let articles = item::count(file, at, ARTICLES)?;
-    let counted = item::count(file, articles.next, WISHES)?;
+    let articles = item::count(file, Ok(at), ARTICLES)?;
+    let counted = item::count(file, Ok(articles.next), WISHES)?;
     let n = articles.value as usize;
     let w = counted.value as usize;
-    let order = item::set(file, counted.next, WISH_BYTES, w)?;
+    let order = item::set(file, Ok(counted.next), WISH_BYTES, w)?;
     let Records {
         first: wishes,
         second: clashes,
@@ -95,8 +95,8 @@ pub fn read_choice(file: &[u8]) -> Result<ReadChoice, Refusal>
         starts,
         lens,
         next,
-    } = records::read_records(file, order.next, Kind::Choice, w, n)?;
-    item::finish(file, next)?;
+    } = records::read_records(file, Ok(order.next), Kind::Choice, w, n)?;
+    item::finish(file, Ok(next))?;
     Ok(ReadChoice {
         articles: n,
         wish_count: w,
@@ -118,13 +118,13 @@ pub fn read_fitting(file: &[u8]) -> Result<ReadFitting, Refusal>
     ensures bytes { Bytes file.now }
 {
     let at = item::kind(file, FITTING)?;
-    let steps = item::count(file, at, STEPS)?;
-    let counted = item::count(file, steps.next, FACTS)?;
-    let horizon = item::count(file, counted.next, HORIZON)?;
+    let steps = item::count(file, Ok(at), STEPS)?;
+    let counted = item::count(file, Ok(steps.next), FACTS)?;
+    let horizon = item::count(file, Ok(counted.next), HORIZON)?;
     let n = steps.value as usize;
     let facts = counted.value as usize;
-    let start = item::set(file, horizon.next, FACT_BYTES, facts)?;
-    let goal = item::set(file, start.next, FACT_BYTES, facts)?;
+    let start = item::set(file, Ok(horizon.next), FACT_BYTES, facts)?;
+    let goal = item::set(file, Ok(start.next), FACT_BYTES, facts)?;
     let Records {
         first: needs,
         second: gives,
@@ -132,8 +132,8 @@ pub fn read_fitting(file: &[u8]) -> Result<ReadFitting, Refusal>
         starts,
         lens,
         next,
-    } = records::read_records(file, goal.next, Kind::Fitting, facts, n)?;
-    item::finish(file, next)?;
+    } = records::read_records(file, Ok(goal.next), Kind::Fitting, facts, n)?;
+    item::finish(file, Ok(next))?;
     Ok(ReadFitting {
         steps: n,
         facts,

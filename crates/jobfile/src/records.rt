@@ -7,6 +7,7 @@ ghost use Rattle.reading.specs.Items.{spots};
 ghost use Rattle.jobfile.specs.Layout.{choice, fitting};
 ghost use Rattle.jobfile.specs.Read.{record_at};
 ghost use Rattle.jobfile.specs.declared.records.Kind.TheVariants as Kind;
+ghost use Rattle.reading.specs.Meaning.{read_from};
 ghost use Rattle.jobfile.specs.Meaning.{layout_by, record_of, records_of, Columns};
 
 use reading::{Refusal, Spot, item};
@@ -53,12 +54,24 @@ fn article(file: &[u8], at: usize, count: usize, own: usize) -> Result<ReadRecor
     ensures result_value { record_of Kind.Choice result ≡ record_at spots choice count own file.now at }
     ensures len_in_bounds { IfOk result (λ r. r.spot.start + r.spot.len ≤ length file.now) }
 {
-    let map = item::bit_map(file, at, ARTICLE_FIELDS)?;
+    let map = item::bit_map(file, Ok(at), ARTICLE_FIELDS)?;
     let m = map.value;
-    let wishes = item::field(file, map.next, word::bit_at(m, 0) == 1, WISH_BYTES, count)?;
-    let clashes = item::field(file, wishes.next, word::bit_at(m, 1) == 1, WISH_BYTES, own)?;
-    let named = item::name(file, clashes.next, word::bit_at(m, 2) == 1, NAME)?;
-    let price = item::amount(file, named.next, word::bit_at(m, 3) == 1, PRICE_BYTES)?;
+    let wishes = item::field(
+        file,
+        Ok(map.next),
+        word::bit_at(m, 0) == 1,
+        WISH_BYTES,
+        count,
+    )?;
+    let clashes = item::field(
+        file,
+        Ok(wishes.next),
+        word::bit_at(m, 1) == 1,
+        WISH_BYTES,
+        own,
+    )?;
+    let named = item::name(file, Ok(clashes.next), word::bit_at(m, 2) == 1, NAME)?;
+    let price = item::amount(file, Ok(named.next), word::bit_at(m, 3) == 1, PRICE_BYTES)?;
     Ok(ReadRecord {
         first: wishes.value,
         second: clashes.value,
@@ -73,12 +86,30 @@ fn step(file: &[u8], at: usize, count: usize, own: usize) -> Result<ReadRecord, 
     ensures result_value { record_of Kind.Fitting result ≡ record_at spots fitting count own file.now at }
     ensures len_in_bounds { IfOk result (λ r. r.spot.start + r.spot.len ≤ length file.now) }
 {
-    let map = item::bit_map(file, at, STEP_FIELDS)?;
+    let map = item::bit_map(file, Ok(at), STEP_FIELDS)?;
     let m = map.value;
-    let needs = item::field(file, map.next, word::bit_at(m, 0) == 1, FACT_BYTES, count)?;
-    let gives = item::field(file, needs.next, word::bit_at(m, 1) == 1, FACT_BYTES, count)?;
-    let takes = item::field(file, gives.next, word::bit_at(m, 2) == 1, FACT_BYTES, count)?;
-    let named = item::name(file, takes.next, word::bit_at(m, 3) == 1, NAME)?;
+    let needs = item::field(
+        file,
+        Ok(map.next),
+        word::bit_at(m, 0) == 1,
+        FACT_BYTES,
+        count,
+    )?;
+    let gives = item::field(
+        file,
+        Ok(needs.next),
+        word::bit_at(m, 1) == 1,
+        FACT_BYTES,
+        count,
+    )?;
+    let takes = item::field(
+        file,
+        Ok(gives.next),
+        word::bit_at(m, 2) == 1,
+        FACT_BYTES,
+        count,
+    )?;
+    let named = item::name(file, Ok(takes.next), word::bit_at(m, 3) == 1, NAME)?;
     Ok(ReadRecord {
         first: needs.value,
         second: gives.value,
@@ -116,8 +147,8 @@ pub struct Records {
     pub next: usize,
 }
 
-// The first n records.
-pub fn read_records(
+// The first n records, from a position on.
+fn records_from(
     file: &[u8],
     at: usize,
     kind: Kind,
@@ -146,4 +177,20 @@ pub fn read_records(
         records.next = found.next;
     }
     Ok(records)
+}
+
+// The first n records, from where reading is.
+pub fn read_records(
+    file: &[u8],
+    from: Result<usize, Refusal>,
+    kind: Kind,
+    count: usize,
+    n: usize,
+) -> Result<Records, Refusal>
+    requires { n ≤ 64 }
+    ensures result_value { records_of kind n result ≡ read_from from (each_at (record_at spots (layout_by kind) count) (up_from n 0) file.now) }
+    ensures columns { IfOk result (Columns n (length file.now)) }
+{
+    let at = from?;
+    records_from(file, at, kind, count, n)
 }

@@ -2,24 +2,34 @@
 -- Assumes nothing.
 use mathlib.Core.Path.{◌≡◌, sym, ap, ap₂, ◌∙◌}
 use mathlib.Core.Logic.{◌≢◌}
-use mathlib.Core.Bool.{Bool, true, false, not, ◌&&◌, ◌||◌, not-not}
+use mathlib.Core.Bool.{Bool, true, false, not, ◌&&◌, ◌||◌, cond, not-not}
 use mathlib.Core.List.{List, []}
 use Prim.Native.Nat.{ℕ, ◌+◌, ◌-◌, ◌^◌, ◌≤◌, ◌<◌, min, max}
 use native.Mathlib.Omega.{arith}
-use lib.Bits.{bit_and, bit_or, and_le_l}
+use lib.Bits.{bit_and, bit_or, or_zero_l, and_le_l}
 use lib.Dec.{eqb}
 use lib.ListN.{get_or}
 use lib.Pow.{pow_mono}
-use borrow.Author.Tests.{eq-eqb, ne_eqb}
-use Rattle.sets.specs.Ranges.{num, list_to}
+use borrow.Author.Tests.{lt-ltb, le-ltb, eq-eqb, ne_eqb}
+use Rattle.sets.specs.Ranges.{num, given, list_to}
 use Rattle.sets.specs.Sets.{bit, member, without, part, meets, set_of, gathered}
-use Rattle.sets.proofs.Ranges.{num-le, given_yes, list_at}
-use Rattle.sets.proofs.Bits.{bit_le, bit-and, bit-or, member-yes, meets-turned, without-le, ext}
+use Rattle.sets.proofs.Ranges.{num-le, given_yes, given-no, list_at}
+use Rattle.sets.proofs.Bits.{bit_le, bit-and, bit-or, member-yes, member-no, meets-turned, without-le, ext}
 use Rattle.sets.proofs.Made.{gathered-part}
 use Rattle.planning.specs.Rounds.{Steps, listed_steps, disturb}
 use Rattle.planning.specs.Layers.{mutex_with, mutex_word, Layer, mutexes, opposed, stands, rivals, standing, round_over}
-use Rattle.layers.specs.Meaning.{layer, uses}
+use Rattle.layers.specs.Meaning.{layer, vertex_words, uses}
 use Rattle.layers.proofs.SetCode.{member-bit, set-by-bits, bit-less}
+
+-- ---- a table of steps as one of vertices
+
+-- a keeper's word is made from the empty set
+pub vertex-keeper : (w x r : ℕ) (kept : Bool) (steps : List ℕ) → x < w → r ≡ bit_or 0 (given kept (2 ^ x)) → r ≡ vertex_words w kept steps x
+vertex-keeper w x r kept steps l e =
+    e ∙ or_zero_l (given kept (2 ^ x)) ∙ sym (ap (λ (t : Bool). cond t (given kept (2 ^ x)) (get_or steps (x - w) 0)) (lt-ltb x w l))
+
+pub vertex-step : (w x : ℕ) (kept : Bool) (steps : List ℕ) → w ≤ x → get_or steps (x - w) 0 ≡ vertex_words w kept steps x
+vertex-step w x kept steps l = sym (ap (λ (t : Bool). cond t (given kept (2 ^ x)) (get_or steps (x - w) 0)) (le-ltb x w l))
 
 -- ---- what the members of a set have together
 
@@ -87,6 +97,9 @@ row_made w n S L m x others a b c h eo ea eb ec = set-by-bits n made (mutex_with
         ∙ round-bit (member m y) (eqb x y) (meets (S.takes x) (uses S y)) (meets (S.takes y) (uses S x)) (meets (opposed w L (S.needs x)) (S.needs y))
 
 -- ---- the sets, and the round layer
+
+pub word-absent : (n m : ℕ) (test : ℕ → ℕ → Bool) (x b : ℕ) → b ≡ bit m x → b ≡ 0 → 0 ≡ mutex_word n m test x
+word-absent n m test x b e z = sym (given-no (member m x) (set_of n (mutex_with m test x)) (member-no m x (sym e ∙ z)))
 
 pub word-there : (n m : ℕ) (test : ℕ → ℕ → Bool) (x b r : ℕ) → b ≡ bit m x → b ≢ 0 → r ≡ set_of n (mutex_with m test x) → r ≡ mutex_word n m test x
 word-there n m test x b r e d er =

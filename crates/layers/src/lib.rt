@@ -50,9 +50,9 @@ impl Vertices {
         ensures takes { result.takes ≡ list_to 64 (vertex_words 32 false job.takes) }
     {
         Vertices {
-            needs: keepers::table(&job.needs, true),
-            gives: keepers::table(&job.gives, true),
-            takes: keepers::table(&job.takes, false),
+            needs: with_keepers(&job.needs),
+            gives: with_keepers(&job.gives),
+            takes: without_keepers(&job.takes),
         }
     }
 
@@ -71,11 +71,52 @@ impl Vertices {
     pub fn facts_over(&self, below: Layer) -> Layer
         ensures { layer result.members result.words ≡ roomy 64 (facts_over 32 (listed_steps [] self.now.gives []) (layer below.members below.words)) }
     {
-        let members = word::gather(&self.gives, below.members);
-        let turned = table::transposed(&self.gives);
-        let words = facts::words(&self.gives, &turned, &below.words, below.members, members);
-        Layer { members, words }
+        facts_over(&self.gives, below)
     }
+}
+
+// What vertices need or give, from what steps do: a keeper has its own fact.
+pub fn with_keepers(steps: &[u64; 64]) -> [u64; 64]
+    ensures { result ≡ list_to 64 (vertex_words 32 true steps.now) }
+{
+    keepers::table(steps, true)
+}
+
+// What vertices take, from what steps do: a keeper takes nothing.
+pub fn without_keepers(steps: &[u64; 64]) -> [u64; 64]
+    ensures { result ≡ list_to 64 (vertex_words 32 false steps.now) }
+{
+    keepers::table(steps, false)
+}
+
+// The round layer over a fact layer, by what each vertex needs, gives and takes.
+pub fn round_over(
+    needs: &[u64; 64],
+    gives: &[u64; 64],
+    takes: &[u64; 64],
+    count: usize,
+    below: Layer,
+) -> Layer
+    requires count_bound { count ≤ 32 }
+    requires by_index { (v : ℕ) → v < 64 → get_or needs.now v 0 < 2 ^ 32 }
+    ensures { layer result.members result.words ≡ round_over 32 (listed_steps needs.now gives.now takes.now) (32 + count) (layer below.members below.words) }
+{
+    let vertices = Vertices {
+        needs: *needs,
+        gives: *gives,
+        takes: *takes,
+    };
+    vertices.round_over(count, below)
+}
+
+// The fact layer over a round layer, by what each vertex gives.
+pub fn facts_over(gives: &[u64; 64], below: Layer) -> Layer
+    ensures { layer result.members result.words ≡ roomy 64 (facts_over 32 (listed_steps [] gives.now []) (layer below.members below.words)) }
+{
+    let members = word::gather(gives, below.members);
+    let turned = table::transposed(gives);
+    let words = facts::words(gives, &turned, &below.words, below.members, members);
+    Layer { members, words }
 }
 
 // Fact layer k.

@@ -4,6 +4,14 @@ ghost use Rattle.sets.specs.Lists.{same_list};
 
 use jobfile::ReadChoice;
 
+// Whether two choices have the same order: a function of its own, so that a wrong comparison is refused
+// for what it says.
+fn same_order(a: ReadChoice, b: ReadChoice) -> bool
+    ensures { result ≡ eqb a.order b.order }
+{
+    a.order == b.order
+}
+
 // Whether two choices are alike.
 #[tactic(auto, using(sets::proofs::Lists::pointwise_same))]
 pub fn alike(a: ReadChoice, b: ReadChoice) -> bool
@@ -11,7 +19,7 @@ pub fn alike(a: ReadChoice, b: ReadChoice) -> bool
 {
     a.articles == b.articles
         && a.wish_count == b.wish_count
-        && a.order == b.order
+        && same_order(a, b)
         && a.wishes == b.wishes
         && a.clashes == b.clashes
 }

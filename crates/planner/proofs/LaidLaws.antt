@@ -1,5 +1,5 @@
 -- The round layers in flat tables: a row is put in its place, a turn adds a layer. Assumes nothing.
-use mathlib.Core.Path.{◌≡◌, sym, ap, ◌∙◌}
+use mathlib.Core.Path.{◌≡◌, sym, ap, subst, ◌∙◌}
 use mathlib.Core.List.{List, ◌++◌, append_assoc}
 use Prim.Native.Nat.{ℕ, ◌+◌, ◌*◌, ◌≤◌, ◌<◌}
 use native.Mathlib.Omega.{arith}
@@ -79,3 +79,7 @@ laid-turn F j m row members words new room L e p = record {
 
     fits : 64 * j + 64 ≤ length words
     fits = omega (arith, L.many)
+
+-- after the last turn all layers are there
+pub laid_end : (F : Fitting) (j h : ℕ) (members words : List ℕ) → j ≡ h → Laid F j members words → Laid F h members words
+laid_end F j h members words e L = subst (λ (n : ℕ). Laid F n members words) e L

@@ -1,11 +1,12 @@
 -- From what a file was read as to the fitting that it states: there is room for it, and all its sets are of facts that there are. Assumes nothing.
 use mathlib.Core.Path.{◌≡◌, refl, sym, ap, subst, ◌∙◌}
-use mathlib.Core.List.{List}
-use Prim.Native.Nat.{ℕ, ◌^◌, ◌≤◌, ◌<◌}
+use mathlib.Core.List.{List, []}
+use Prim.Native.Nat.{ℕ, ◌^◌, ◌≤◌, ◌<◌, zero-le}
 use native.Mathlib.Omega.{arith}
 use lib.ListN.{get_or, get_or-eq_default}
 use lib.Pow.{pow_pos}
-use Rattle.std.specs.Prelude.{Ok}
+use Rattle.std.specs.Prelude.{Result, Ok, Err, IfOk}
+use Rattle.reading.specs.declared.Refusal.{Refusal}
 use Rattle.reading.specs.declared.Spot.{Spot}
 use Rattle.reading.specs.Got.{Got, got, refused}
 use Rattle.reading.specs.Items.{spots}
@@ -21,7 +22,7 @@ use Rattle.jobfile.proofs.ReadLaws.{padded-at}
 use Rattle.jobfile.proofs.NamingLaws.{map_got, job_by, read_same, column-by}
 use Rattle.planning.specs.Rounds.{fitting_of}
 use Rattle.planning.specs.Back.{Sized}
-use Rattle.planning.specs.Meaning.{fitting_in}
+use Rattle.planning.specs.Meaning.{fitting_in, fitting_by}
 
 -- ---- the fitting of a job
 
@@ -62,6 +63,22 @@ fitting-same f job end few = λ i. record {
         padded-at 64 (column k job.records) (omega (arith, column-length k job.records, few.0, few.1)) a
         ∙ ap (λ (l : List ℕ). get_or l a 0) (sym (column-by f k job.records))
 
+-- if nothing was read, there is no step and no fact
+sized-none : (e : Refusal) → Sized 32 (fitting_by (Err e))
+sized-none e = record {
+  few = zero-le;
+  room = zero-le;
+  start = pow_pos 0;
+  goal = pow_pos 0;
+  needs = λ a l. absurd (omega arith);
+  gives = λ a l. absurd (omega arith);
+  takes = λ a l. absurd (omega arith);
+  past = λ a l. (nothing a, nothing a, nothing a);
+}
+  where
+    nothing : (a : ℕ) → ◌≡◌ {A = ℕ} (get_or [] a 0) 0
+    nothing a = get_or-eq_default [] 0 {n = a} zero-le
+
 -- ---- what a reading is good for
 
 module _ (f : List ℕ) (r : ReadFitting) (e : Ok r ≡ fitting_read (read spots fittings f)) (bounds : FittingBounds f r) where
@@ -76,9 +93,8 @@ module _ (f : List ℕ) (r : ReadFitting) (e : Ok r ≡ fitting_read (read spots
           let q : r ≡ as_fitting found = cc in
           ap fitting_in q ∙ fitting-same f found at (subst (Few 32) is bounds.4) ∙ ap fitting_of (same-value (ap (map_got (job_by f)) (sym is) ∙ same))
 
-  -- there is room for what was read, and its sets are of facts that there are
-  pub sized-read : Sized 32 (fitting_in r)
-  sized-read = go (read spots fittings f) refl
+  sized-accepted : Sized 32 (fitting_in r)
+  sized-accepted = go (read spots fittings f) refl
     where
       go : (g : Got (Job Spot)) → read spots fittings f ≡ g → Sized 32 (fitting_in r)
       go (refused reason place) is =
@@ -87,3 +103,8 @@ module _ (f : List ℕ) (r : ReadFitting) (e : Ok r ≡ fitting_read (read spots
       go (got found at) is =
           let q : read_job fittings f ≡ got (job_by f found) at = read_same f fittings ∙ ap (map_got (job_by f)) is in
           subst (Sized 32) (sym (fitting-read (job_by f found) at q)) (sized-stated (job_by f found) (fitting-stated f bounds.5 q))
+
+-- whatever was read, accepted or not, there is room for it and its sets are of facts that there are
+pub sized-read : (f : List ℕ) (v : Result ReadFitting Refusal) → v ≡ fitting_read (read spots fittings f) → IfOk v (FittingBounds f) → Sized 32 (fitting_by v)
+sized-read f (Ok r) e bounds = sized-accepted f r e bounds
+sized-read f (Err x) e bounds = sized-none x

@@ -1,11 +1,13 @@
 -- The laws of the list of states: what is listed stays listed as the list grows, and a list that has an end and no goal refutes every plan.
 -- Assumes nothing.
-use mathlib.Core.Path.{refl, sym, subst, ◌∙◌}
+use mathlib.Core.Path.{◌≡◌, refl, sym, subst, ◌∙◌}
 use mathlib.Core.List.{List}
-use Prim.Native.Nat.{ℕ, ◌≤◌, ◌<◌}
+use Prim.Native.Nat.{ℕ, ◌+◌, ◌≤◌, ◌<◌}
 use native.Mathlib.Nat.{le_refl, le_trans}
+use native.Mathlib.Omega.{arith}
 use lib.Bits.{bit_or}
-use lib.ListN.{length, get_or}
+use lib.ListN.{length, get_or, set, length-set}
+use lib.Seq.{get_or-set_same, get_or-set_other}
 use Rattle.sets.specs.Sets.{◌⊆◌, without}
 use Rattle.planning.specs.Rounds.{Steps, Fitting, Plan}
 use Rattle.planning.proofs.SerialLaws.{stepped, closed-hopeless}
@@ -22,6 +24,17 @@ grown-on g h = record {
   room = h.room;
   same = λ j l. h.same j (le_trans l g.more) ∙ g.same j l;
 }
+
+-- one state more, after the others
+pub grown-one : (l : List ℕ) (n s : ℕ) → n < length l → Grown l (set l n s) n (n + 1) × Among (set l n s) (n + 1) s
+grown-one l n s h = (
+  record {
+    more = omega arith;
+    room = omega (arith, length-set l n s);
+    same = λ j k. get_or-set_other l n j s 0 (λ (z : j ≡ n). let f : ⊥ = omega arith in f);
+  },
+  (n, omega arith, get_or-set_same l n s 0 h),
+)
 
 -- what is listed stays listed
 pub among-grown : {old new : List ℕ} {n r : ℕ} → Grown old new n r → (s : ℕ) → Among old n s → Among new r s

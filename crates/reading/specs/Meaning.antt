@@ -15,10 +15,16 @@ abbrev pub tested : Bool → Reason → ℕ → Result (Unit {0}) Refusal
 tested fault reason place = cond fault (Err (record { reason = reason; place = place })) (Ok tt)
 
 -- reason 8, of a file of this length
-abbrev pub finished : ℕ → ℕ → Result (Unit {0}) Refusal
-finished end at = tested (ltb at end) TrailingBytes at
+abbrev pub finished : ℕ → Result ℕ Refusal → Result ℕ Refusal
+finished end (Ok at) = cond (ltb at end) (Err (record { reason = TrailingBytes; place = at })) (Ok at)
+finished end (Err r) = Err r
 
 -- ---- items
+
+-- a reader goes on from where reading is; a refusal is handed on
+abbrev pub read_from : {A : Type 0} → Result ℕ Refusal → (ℕ → Got A) → Got A
+read_from (Ok at) reader = reader at
+read_from (Err r) reader = refused r.reason r.place
 
 -- a value, if reading goes on after it at the position that was found
 abbrev pub got_by : {A : Type 0} → A → Result ℕ Refusal → Got A

@@ -1,11 +1,11 @@
-// The items of a job file. A reader is given the file and a position in it. It gives what it read and
-// the position after that, or the first fault that it found.
+// The items of a job file. A reader is given the file and where reading is in it, or why it ended. It
+// gives what it read and the position after that, or the first fault.
 #![tactic(auto, unfolding(crate::specs::Items::kind_at, crate::specs::Items::number_at, crate::specs::Items::count_at, crate::specs::Items::map_at, crate::specs::Items::set_at, crate::specs::Items::field_at, crate::specs::Items::length_at, crate::specs::Items::name_at))]
 
 ghost use Rattle.std.specs.Prelude.{◌≡◌, ◌+◌, ◌≤◌, ltb, eqb, length, IfOk};
 ghost use Rattle.reading.specs.Got.{optional};
 ghost use Rattle.reading.specs.Items.{kind_at, value_at, number_at, count_at, map_at, set_at, amount_at, field_at, length_at, name_at, spots};
-ghost use Rattle.reading.specs.Meaning.{tested, finished, got_by, item_got, name_got};
+ghost use Rattle.reading.specs.Meaning.{tested, finished, got_by, read_from, item_got, name_got};
 
 use crate::{Reason, Refusal, Spot};
 use sets::word;
@@ -85,29 +85,37 @@ pub fn kind(file: &[u8], kind: u8) -> Result<usize, Refusal>
 }
 
 // A count, or the horizon.
-pub fn count(file: &[u8], at: usize, limit: u64) -> Result<Item, Refusal>
-    ensures result_value { item_got result ≡ count_at 1 limit file.now at }
+pub fn count(file: &[u8], from: Result<usize, Refusal>, limit: u64) -> Result<Item, Refusal>
+    ensures result_value { item_got result ≡ read_from from (count_at 1 limit file.now) }
     ensures value_le_limit { IfOk result (λ item. item.value ≤ limit) }
 {
-    let count = number(file, at, 1)?;
-    test(limit < count.value, Reason::OverLimit, at)?;
+    let place = from?;
+    let count = number(file, place, 1)?;
+    test(limit < count.value, Reason::OverLimit, place)?;
     Ok(count)
 }
 
 // The bit map of a record with this many fields.
-pub fn bit_map(file: &[u8], at: usize, fields: usize) -> Result<Item, Refusal>
-    ensures { item_got result ≡ map_at fields file.now at }
+pub fn bit_map(file: &[u8], from: Result<usize, Refusal>, fields: usize) -> Result<Item, Refusal>
+    ensures { item_got result ≡ read_from from (map_at fields file.now) }
 {
+    let at = from?;
     let map = number(file, at, 1)?;
     test(word::exceeds(map.value, fields), Reason::ForbiddenBit, at)?;
     Ok(map)
 }
 
 // A set whose members are below the limit.
-pub fn set(file: &[u8], at: usize, bytes: usize, limit: usize) -> Result<Item, Refusal>
+pub fn set(
+    file: &[u8],
+    from: Result<usize, Refusal>,
+    bytes: usize,
+    limit: usize,
+) -> Result<Item, Refusal>
     requires { bytes ≤ 8 }
-    ensures { item_got result ≡ set_at bytes limit file.now at }
+    ensures { item_got result ≡ read_from from (set_at bytes limit file.now) }
 {
+    let at = from?;
     let set = number(file, at, bytes)?;
     test(word::exceeds(set.value, limit), Reason::AbsentMember, at)?;
     Ok(set)
@@ -116,14 +124,15 @@ pub fn set(file: &[u8], at: usize, bytes: usize, limit: usize) -> Result<Item, R
 // Such a set as a field of a record, which is there if it is marked.
 pub fn field(
     file: &[u8],
-    at: usize,
+    from: Result<usize, Refusal>,
     marked: bool,
     bytes: usize,
     limit: usize,
 ) -> Result<Item, Refusal>
     requires { bytes ≤ 8 }
-    ensures { item_got result ≡ optional marked 0 (field_at bytes limit) file.now at }
+    ensures { item_got result ≡ read_from from (optional marked 0 (field_at bytes limit) file.now) }
 {
+    let at = from?;
     if !marked {
         return Ok(Item { value: 0, next: at });
     }
@@ -133,10 +142,16 @@ pub fn field(
 }
 
 // An amount as a field of a record, likewise.
-pub fn amount(file: &[u8], at: usize, marked: bool, bytes: usize) -> Result<Item, Refusal>
+pub fn amount(
+    file: &[u8],
+    from: Result<usize, Refusal>,
+    marked: bool,
+    bytes: usize,
+) -> Result<Item, Refusal>
     requires { bytes ≤ 8 }
-    ensures { item_got result ≡ optional marked 0 (amount_at bytes) file.now at }
+    ensures { item_got result ≡ read_from from (optional marked 0 (amount_at bytes) file.now) }
 {
+    let at = from?;
     if marked {
         return present(file, at, bytes);
     }
@@ -153,10 +168,16 @@ fn name_length(file: &[u8], at: usize, limit: u64) -> Result<Item, Refusal>
 }
 
 // A name, which is there if it is marked.
-pub fn name(file: &[u8], at: usize, marked: bool, limit: u64) -> Result<Named, Refusal>
-    ensures result_value { name_got result ≡ optional marked spots.absent (name_at spots limit) file.now at }
+pub fn name(
+    file: &[u8],
+    from: Result<usize, Refusal>,
+    marked: bool,
+    limit: u64,
+) -> Result<Named, Refusal>
+    ensures result_value { name_got result ≡ read_from from (optional marked spots.absent (name_at spots limit) file.now) }
     ensures len_in_bounds { IfOk result (λ named. named.spot.start + named.spot.len ≤ length file.now) }
 {
+    let at = from?;
     if !marked {
         let spot = Spot { start: 0, len: 0 };
         return Ok(Named { spot, next: at });
@@ -173,8 +194,10 @@ pub fn name(file: &[u8], at: usize, marked: bool, limit: u64) -> Result<Named, R
 }
 
 // The end of the file: nothing may follow.
-pub fn finish(file: &[u8], at: usize) -> Result<(), Refusal>
-    ensures { result ≡ finished (length file.now) at }
+pub fn finish(file: &[u8], from: Result<usize, Refusal>) -> Result<usize, Refusal>
+    ensures { result ≡ finished (length file.now) from }
 {
-    test(at < file.len(), Reason::TrailingBytes, at)
+    let at = from?;
+    test(at < file.len(), Reason::TrailingBytes, at)?;
+    Ok(at)
 }

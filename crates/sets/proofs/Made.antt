@@ -3,12 +3,12 @@ use mathlib.Core.Path.{◌≡◌, refl, sym, ap, ap₂, ◌∙◌}
 use mathlib.Core.Logic.{◌⊎◌, inl, inr}
 use mathlib.Core.Bool.{Bool, true, false}
 use Prim.Native.Nat.{ℕ, zero, suc, ◌+◌, ◌-◌, ◌*◌, ◌/◌, ◌%◌, ◌^◌, ◌≤◌, ◌<◌}
-use native.Mathlib.Nat.{le_refl, pow-suc, mul_assoc, one-mul, zero-mul}
+use native.Mathlib.Nat.{le_refl, pow-suc, mul_assoc, one-mul, zero-mul, mod-eq_of_lt}
 use native.Mathlib.Decide.{dec_lt, ℕ_discrete}
 use native.Mathlib.Numerals.{add-one}
 use native.Mathlib.Omega.{arith}
 use lib.Arith.{digits_mod, digits_div}
-use lib.Pow.{pow_pos}
+use lib.Pow.{pow_pos, pow-lt}
 use lib.Bits.{bit_and, bit_or, or_lt, or_zero_r}
 use Rattle.sets.specs.Ranges.{num, given, sum_to}
 use Rattle.sets.specs.Sets.{bit, ◌∈◌, member, without, ◌⊆◌, full, set_of, union_to, gathered}
@@ -218,3 +218,7 @@ and-not w a b ha hb = ext (bit_and a (full w - b)) (without a b) (λ i. go i (de
     go : (i : ℕ) → Dec (i < w) → bit (bit_and a (full w - b)) i ≡ bit (without a b) i
     go i (yes l) = omega (arith, bit-and a (full w - b) i, bit-without a b i, bit_not w b i hb l, bit_le a i)
     go i (no l) = omega (arith, bit-and a (full w - b) i, bit-without a b i, bit_high a w i ha (omega arith))
+
+-- one member, as a shift makes it
+pub shl_one : (w i : ℕ) → i < w → (1 * 2 ^ i) % 2 ^ w ≡ 2 ^ i
+shl_one w i h = ap (λ (x : ℕ). x % 2 ^ w) (one-mul (2 ^ i)) ∙ mod-eq_of_lt (pow-lt h)

@@ -22,8 +22,8 @@ pub fn transposed(table: &[u64; 64]) -> [u64; 64]
     ensures { result ≡ transposed 64 table.now }
 {
     let mut turned: [u64; 64] = [0; 64];
-    for (j, wishes) in table.iter().enumerate() {
-        mark(&mut turned, *wishes, j);
+    for j in 0..word::WIDTH {
+        mark(&mut turned, table[j], j);
     }
     turned
 }

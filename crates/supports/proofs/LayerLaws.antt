@@ -1,14 +1,15 @@
--- What is asked of one round layer: which vertices the facts open, and the facts that no selection covers. Assumes nothing.
+-- What is asked of one round layer: which vertices the facts open, its mutex words, and the facts that no selection covers. Assumes nothing.
 use mathlib.Core.Path.{◌≡◌, refl, sym, ap, subst, ◌∙◌}
 use mathlib.Core.Logic.{⊎_elim}
 use mathlib.Core.Bool.{Bool, true, false, true≢false}
-use mathlib.Core.List.{List}
+use mathlib.Core.List.{List, append-nil}
 use mathlib.Core.Option.{Option, none, some}
 use Rattle.std.specs.Prelude as code
-use Prim.Native.Nat.{ℕ, ◌^◌, ◌<◌, zero-le}
+use Prim.Native.Nat.{ℕ, ◌+◌, ◌-◌, ◌*◌, ◌^◌, ◌≤◌, ◌<◌, zero-le}
 use native.Mathlib.Omega.{arith}
 use lib.Bits.{bit_or}
-use lib.ListN.{get_or}
+use lib.ListN.{length, get_or, take, drop, replicate}
+use lib.Seq.{take-take, paste}
 use Rattle.sets.specs.Ranges.{given}
 use Rattle.sets.specs.Sets.{bit, ◌∈◌, ◌⊆◌, part, without, lowest}
 use Rattle.sets.specs.First.{Smallest}
@@ -19,7 +20,7 @@ use Rattle.choice.specs.Choice.{smallest}
 use Rattle.choice.specs.Search.{Finds}
 use Rattle.choice.specs.Meaning.{found_by, is_some}
 use Rattle.choice.proofs.ChoiceLaws.{smallest-right}
-use Rattle.supports.specs.Supports.{Opens, Uncovered}
+use Rattle.supports.specs.Supports.{row_of, Opens, Uncovered}
 
 -- ---- a loop over the members of m, from the lowest up: those visited are the members that are not left, `without m left`
 
@@ -91,6 +92,15 @@ module _ (needs : List ℕ) (may : ℕ) where
   pub opening-end : (m v left : ℕ) → Opening m v left → left ≡ 0 → Opens needs m may v
   opening-end m v left (p, o) e = subst (λ (s : ℕ). Opens needs s may v) (ap (without m) e ∙ visited-all m) o
 
+-- ---- the mutex words of a round layer
+
+-- a copy of them, over 64 words
+pub row_copied : (words all : List ℕ) (j : ℕ) → 64 * j + 64 ≤ length words → all ≡ paste (replicate {A = ℕ} 64 0) 0 (take (length words - 64 * j) (drop (64 * j) words)) 64
+    → all ≡ row_of words j
+unfolding row_of
+row_copied words all j h e =
+    e ∙ append-nil (take 64 (take (length words - 64 * j) (drop (64 * j) words))) ∙ take-take 64 (length words - 64 * j) (drop (64 * j) words) (omega arith)
+
 -- ---- the question
 
 -- it may be asked of a copy of the mutex words
@@ -114,6 +124,10 @@ coverable-none N allowed need h e = go (smallest N allowed need 0) (smallest-rig
     go : (a : Option ℕ) → Smallest (Cover N allowed need) 0 a → false ≡ is_some a → (x : ℕ) → Cover N allowed need x → ⊥
     go (some y) s q x c = absurd (true≢false (sym q))
     go none s q x c = s x c zero-le
+
+pub asked-none : (N : Network) (allowed need : ℕ) {r : code.Option ℕ} → allowed < 2 ^ N.articles → r ≡ found_by (smallest N allowed need 0) → r ≡ code.None
+    → (x : ℕ) → Cover N allowed need x → ⊥
+asked-none N allowed need h e q = subst (λ (f : code.Option ℕ). Finds N allowed need f) q (asked N allowed need h e)
 
 -- ---- facts that no selection covers
 

@@ -7,17 +7,18 @@ use mathlib.Core.Option.{Option, none, some}
 use Prim.Native.Nat.{ℕ, ◌+◌, ◌<◌, ◌≤◌}
 use native.Mathlib.Omega.{arith}
 use lib.Dec.{ltb, eqb}
-use lib.ListN.{length, take, drop, length-append}
-use lib.Seq.{length-take-le, drop-drop}
+use lib.ListN.{length, get_or, take, drop, length-append}
+use lib.Seq.{length-take-le, drop-drop, get_or-take}
 use borrow.Author.Tests.{ltb-true, ltb-false, lt-ltb, le-ltb, le-leb, lt-leb, eq-eqb, ne_eqb}
 use Rattle.std.specs.Prelude as code
 use Rattle.std.specs.Prelude.{Some, None}
 use Rattle.std.specs.Option.{is_some}
 use Rattle.unicode_forms.specs.declared.form.Form.{Form}
 use Rattle.sets.proofs.Ranges.{test-cases, both_true}
+use Rattle.sets.proofs.Lists.{all_same, one-differs, lengths_differ}
 use Rattle.unicode_forms.specs.Utf8.{covers, covers_all}
 use Rattle.unicode_forms.specs.Canonical.{entry_of, first_of, second_of, parts_in, parts, reorderable}
-use Rattle.unicode_forms.specs.Forms.{before, text_of, apart, inserted, ordered, form_of, Sound}
+use Rattle.unicode_forms.specs.Forms.{before, text_of, apart, inserted, ordered, form_of, Sound, same_form}
 use Rattle.unicode_forms.specs.Meaning.{told, short, more, more_all, Starts}
 use Rattle.unicode_forms.proofs.OrderLaws.{ordered-again, ordered-length}
 use Rattle.unicode_forms.proofs.TableLaws.{fixed}
@@ -144,6 +145,10 @@ put-more room count c chars next l h v (s, a, o) e = (
 pub put_full : (room count c : ℕ) (chars : List ℕ) → length chars ≡ room → room ≤ count → Sound room count (take count chars) → none ≡ more room (some (take count chars)) c
 put_full room count c chars l h (s, a, o) = sym (rw (le-ltb (length (take count chars)) room (omega (arith, length-take-le count chars (omega arith)))) refl)
 
+pub put-none : (room c : ℕ) (f : code.Option Form) → false ≡ is_some f → told f ≡ more room (told f) c
+put-none room c (Some f) e = absurd (true≢false (sym e))
+put-none room c None e = refl
+
 -- where there is no form, none is told
 pub told_none : (f : code.Option Form) → false ≡ is_some f → told f ≡ none
 told_none (Some f) e = absurd (true≢false (sym e))
@@ -173,3 +178,33 @@ module _ (c e : ℕ) (h : covers c ≡ true) (high : 0xc0 ≤ c) (is : e ≡ ent
   second-covered z =
       let all : covers_all ((first_of e) ∷ (second_of e) ∷ []) ≡ true = subst (λ (l : List ℕ). covers_all l ≡ true) (parts-two z) (fixed c h).0 in
       (both_true (covers (second_of e)) true (both_true (covers (first_of e)) (covers (second_of e) && true) all).1).0
+
+-- ---- two forms compared
+
+pub same_left : (x y : code.Option Form) → false ≡ is_some x → false ≡ same_form (told x) (told y)
+same_left (Some f) y e = absurd (true≢false (sym e))
+same_left None y e = refl
+
+pub same-right : (x y : code.Option Form) → true ≡ is_some x → false ≡ is_some y → false ≡ same_form (told x) (told y)
+same-right (Some f) (Some g) d e = absurd (true≢false (sym e))
+same-right (Some f) None d e = refl
+same-right None y d e = refl
+
+module _ (room m n : ℕ) (a b : List ℕ) (la : length a ≡ room) (lb : length b ≡ room) (sa : Sound room m (take m a)) (sb : Sound room n (take n b)) where
+  long-a : length (take m a) ≡ m
+  long-a = length-take-le m a (omega (arith, sa.0))
+
+  long-b : length (take n b) ≡ n
+  long-b = length-take-le n b (omega (arith, sb.0))
+
+  pub same-counts : (m ≡ n → ⊥) → false ≡ same_form (some (take m a)) (some (take n b))
+  same-counts d = lengths_differ (take m a) (take n b) (λ q. d (sym long-a ∙ q ∙ long-b))
+
+  pub same-one : m ≡ n → (i : ℕ) → i < m → (get_or a i 0 ≡ get_or b i 0 → ⊥) → false ≡ same_form (some (take m a)) (some (take n b))
+  same-one q i h d =
+      one-differs (take m a) (take n b) i (λ z. d (sym (get_or-take m a i 0 h) ∙ z ∙ get_or-take n b i 0 (subst (λ (x : ℕ). i < x) q h)))
+
+  pub same-every : m ≡ n → ((j : ℕ) → j < m → get_or a j 0 ≡ get_or b j 0) → true ≡ same_form (some (take m a)) (some (take n b))
+  same-every q h =
+      all_same (take m a) (take n b) (long-a ∙ q ∙ sym long-b)
+      (λ j z. let i : j < m = omega (arith, z, long-a) in get_or-take m a j 0 i ∙ h j i ∙ sym (get_or-take n b j 0 (subst (λ (x : ℕ). j < x) q i)))

@@ -1,7 +1,7 @@
 -- The text of a name is the one whose bytes it is. Assumes nothing.
 use mathlib.Core.Path.{◌≡◌, refl, sym, ap, ap₂, subst, ◌∙◌}
 use mathlib.Core.Logic.{◌⊎◌, inl, inr}
-use mathlib.Core.Bool.{true, false, ◌&&◌}
+use mathlib.Core.Bool.{true, false, ◌&&◌, true≢false}
 use mathlib.Core.List.{List, [], ◌∷◌, ◌++◌}
 use mathlib.Core.Option.{Option, none, some}
 use Prim.Native.Nat.{ℕ, suc, ◌+◌, ◌-◌, ◌/◌, ◌%◌, ◌<◌, ◌≤◌}
@@ -10,10 +10,14 @@ use lib.Dec.{ltb, leb}
 use lib.ListN.{length, get_or, drop, length-drop, drop_of_length-le}
 use lib.Seq.{drop-cons}
 use borrow.Author.Tests.{ltb-true, lt-ltb, le-ltb, le-leb, ltb-false, leb-true}
+use Rattle.std.specs.Prelude as code
+use Rattle.std.specs.Prelude.{Some, None}
+use Rattle.std.specs.Option.{is_some}
 use Rattle.sets.proofs.Ranges.{test-cases, both_true}
 use Rattle.unicode_forms.specs.Utf8.{encoded, utf8, covers, covers_all}
 use Rattle.unicode_forms.specs.Forms.{joined, is_pair, before, text_of}
-use Rattle.unicode_forms.specs.Meaning.{Starts}
+use Rattle.unicode_forms.specs.declared.utf8.Char.{Char}
+use Rattle.unicode_forms.specs.Meaning.{Starts, Read}
 
 -- a covered character is below U+0370
 pub covered-low : (c : ℕ) → covers c ≡ true → c < 0x370
@@ -162,3 +166,11 @@ module _ (s : List ℕ) (at a : ℕ) (inside : at < length s) (is : a ≡ get_or
       inside = omega (arith, length-drop at s);
       is_text = subst (λ (l : List ℕ). text_of l ≡ before (joined a b) (text_of (drop 2 l))) (sym both) (text-pair a b (drop (suc (suc at)) s) high e);
     }
+
+-- a character that was read, and none
+pub read_none : (r : code.Option Char) (s : List ℕ) → false ≡ is_some r → Read r s → text_of s ≡ none
+read_none (Some c) s e r = absurd (true≢false (sym e))
+read_none None s e r = r
+
+pub read_some : (r : code.Option Char) (s : List ℕ) {c : Char} → r ≡ Some c → Read r s → (covers c.code ≡ true) × (c.size ≤ length s) × (text_of s ≡ before c.code (text_of (drop c.size s)))
+read_some r s e p = let q = subst (λ (o : code.Option Char). Read o s) e p in (q.char, q.inside, q.is_text)

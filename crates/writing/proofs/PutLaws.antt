@@ -4,10 +4,11 @@ use mathlib.Core.Bool.{Bool, true, false, not, cond}
 use mathlib.Core.List.{List, [], ◌∷◌, ◌++◌, append-nil, append_assoc}
 use Prim.Native.Nat.{ℕ, suc, ◌+◌, ◌-◌, ◌*◌, ◌/◌, ◌%◌, ◌≤◌, ◌<◌}
 use native.Mathlib.Nat.{add-zero}
+use native.Mathlib.Numerals.{add-one}
 use native.Mathlib.Omega.{arith}
 use lib.Dec.{eqb}
-use lib.ListN.{length, set, take, drop, length-append}
-use lib.Seq.{sets, sets-eq, take_at, take_all, length-sets}
+use lib.ListN.{length, set, take, drop, get_or, length-append}
+use lib.Seq.{sets, sets-eq, take_at, take-suc, take_all, length-sets, length-take-le}
 use Rattle.std.proofs.lemmas.Slice.{put_mid-paste}
 use borrow.Rule.Slice.PartMut.{put_mid}
 use borrow.Author.Tests.{eq-eqb, ne_eqb}
@@ -76,6 +77,17 @@ put-copied page at bytes {k} {end} {part} {new} fits many next copied there =
     ∙ put_mid-paste at k page part bytes (length bytes) copied (sym many) refl
     ∙ ap (λ (l : List ℕ). take at page ++ l ++ drop (at + length bytes) page) (take_all (length bytes) bytes (omega arith))
     ∙ sym (sets-eq bytes page at fits) in record { next = next; written = written; same = ap length written ∙ length-sets page at bytes }
+
+-- ---- copying byte by byte: the first i bytes are put
+
+pub copy-turn : (page : List ℕ) (at : ℕ) (bytes now : List ℕ) (i : ℕ) {k x : ℕ} → now ≡ sets page at (take i bytes) → i < length bytes → k ≡ at + i → x ≡ get_or bytes i 0
+    → set now k x ≡ sets page at (take (i + 1) bytes)
+copy-turn page at bytes now i e l place same =
+    let n : length (take i bytes) ≡ i = length-take-le i bytes (omega arith) in
+    rw (add-one, take-suc bytes i 0 l, ← sets-append (take i bytes) (get_or bytes i 0 ∷ []) page at, n, e, place, same)
+
+pub copy-end : (page : List ℕ) (at : ℕ) (bytes now : List ℕ) (i : ℕ) → now ≡ sets page at (take i bytes) → length bytes ≤ i → now ≡ sets page at bytes
+copy-end page at bytes now i e l = e ∙ ap (sets page at) (take_all i bytes l)
 
 -- ---- numbers: the first i bytes are put, and putting what is left of the number after them gives the whole
 

@@ -56,14 +56,15 @@ fn put_field(page: &mut [u8], at: usize, bytes: usize, value: u64) -> usize
     put_number(page, at, bytes, value)
 }
 
-// Bytes as they are.
+// Bytes as they are, one by one: to copy them as a slice, the library for C would need `memmove`.
 pub fn put_bytes(page: &mut [u8], at: usize, bytes: &[u8]) -> usize
     requires { at + length bytes.now ≤ length page.old }
     ensures { Put page.old at bytes.now page.new result }
 {
-    let end = at + bytes.len();
-    page[at..end].copy_from_slice(bytes);
-    end
+    for i in 0..bytes.len() {
+        page[at + i] = bytes[i];
+    }
+    at + bytes.len()
 }
 
 // A name with its length in front: an empty one is left out.

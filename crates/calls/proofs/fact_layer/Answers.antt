@@ -2,6 +2,7 @@
 use borrow.Author.Rules.{rules}
 use native.Mathlib.Omega.{arith}
 use lib.ListN.{length}
+use Rattle.std.specs.Prelude.{Ok}
 use Rattle.planning.specs.Layers.{fact_layer}
 use Rattle.planning.specs.Meaning.{fitting_in}
 use Rattle.planning.proofs.ReadLaws.{sized-read}
@@ -28,7 +29,7 @@ returns-in_err-layer c =
 pub fact_layer-layer-requires : goal.fact_layer-layer-requires
 fact_layer-layer-requires c =
     let r = c.in_ok-read in
-    sized-read c.args.file.now r.read r.ensures.value r.ensures.fitting_bounds
+    sized-read c.args.file.now (Ok r.read) r.ensures.value r.ensures.fitting_bounds
 
 pub facts-requires : goal.facts-requires
 facts-requires c =
@@ -39,7 +40,7 @@ facts-requires c =
 pub overflow_cast-result : goal.overflow_cast-result
 overflow_cast-result c =
     let r = c.in_ok-read in
-    let fits = facts-fit (fitting_in r.read) _ c.fact_layer-layer.ensures (sized-read c.args.file.now r.read r.ensures.value r.ensures.fitting_bounds) in
+    let fits = facts-fit (fitting_in r.read) _ c.fact_layer-layer.ensures (sized-read c.args.file.now (Ok r.read) r.ensures.value r.ensures.fitting_bounds) in
     search rules
 
 pub returns : goal.returns

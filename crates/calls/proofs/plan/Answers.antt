@@ -31,7 +31,7 @@ returns-in_err-room c =
 pub plan-made-requires : goal.plan-made-requires
 plan-made-requires c =
     let r = c.in_ok-read in
-    (sized-read c.args.file.now r.read r.ensures.value r.ensures.fitting_bounds, r.ensures.fitting_bounds.2, room-passed _ _ c.room.ensures c.in_ok-room.was)
+    (sized-read c.args.file.now (Ok r.read) r.ensures.value r.ensures.fitting_bounds, r.ensures.fitting_bounds.2, room-passed _ _ c.room.ensures c.in_ok-room.was)
 
 pub returns-in-Some : goal.returns-in-Some
 returns-in-Some c =

@@ -1,6 +1,7 @@
 -- `calls::round_layer` meets its contract: each return by what the reader, the test and the layers told.
 use native.Mathlib.Omega.{arith}
 use lib.ListN.{length}
+use Rattle.std.specs.Prelude.{Ok}
 use Rattle.planning.specs.Layers.{round_layer}
 use Rattle.planning.proofs.ReadLaws.{sized-read}
 use Rattle.arguments.proofs.TestLaws.{layer-passed}
@@ -28,7 +29,7 @@ round_layer-layer-requires c =
     let r = c.in_ok-read in
     let a = c.args in
     let from_one = (layer-passed a.k 1 r.read.horizon (length a.words.now) 64 c.layer.ensures c.in_ok-layer.was).0 in
-    (sized-read a.file.now r.read r.ensures.value r.ensures.fitting_bounds, omega arith)
+    (sized-read a.file.now (Ok r.read) r.ensures.value r.ensures.fitting_bounds, omega arith)
 
 pub vertices-requires : goal.vertices-requires
 vertices-requires c =

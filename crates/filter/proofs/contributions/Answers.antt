@@ -1,5 +1,6 @@
 use mathlib.Core.List.{[]}
-use Prim.Native.Nat.{◌<◌}
+use mathlib.Core.Path.{◌≡◌}
+use Prim.Native.Nat.{◌<◌, max}
 use native.Mathlib.Omega.{arith}
 use lib.ListN.{get_or}
 use Rattle.network.specs.Network.{listed}
@@ -15,7 +16,8 @@ loop-u-preserved c =
     let l = c.loop-u in
     let h = c.requires.2 l.u c.loop-u-test.true in
     let inside : get_or a.groups.now l.u 0 < 64 = omega (arith, h, c.requires.0) in
-    best-turn (listed a.n a.wishes.now []) (λ i. get_or a.groups.now i 0) a.live a.goal l.best l.u c.carried-x.result c.max.result l.invariant inside c.carried-x.ensures c.max.ensures
+    best-turn (listed a.n a.wishes.now []) (λ i. get_or a.groups.now i 0) a.live a.goal l.best l.u c.carried-x.result _ l.invariant inside c.carried-x.ensures
+    (let most : _ ≡ max (get_or l.best (get_or a.groups.now l.u 0) 0) c.carried-x.result = omega arith in most)
 
 pub returns : goal.returns
 returns c =

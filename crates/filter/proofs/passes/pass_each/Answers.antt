@@ -1,5 +1,4 @@
 use mathlib.Core.List.{[]}
-use mathlib.Core.Path.{refl}
 use native.Mathlib.Omega.{arith}
 use lib.ListN.{get_or}
 use Rattle.sets.specs.Sets.{full}
@@ -17,7 +16,7 @@ returns-then-passed-count-clause-short_value c =
     let a = c.args in
     let l = c.loop-i in
     let short = onward-short (listed a.n a.wishes.now []) (λ u. get_or a.groups.now u 0) (full a.n) a.goals.now l.invariant c.loop-i-test.true (omega arith)
-    refl c.pass-passed.ensures.sum_value c.count.ensures.value (omega (arith, c.if-passed-count.true)) in
+    (omega arith) c.pass-passed.ensures.sum_value c.count.ensures.value (omega (arith, c.if-passed-count.true)) in
     omega (arith, short)
 
 pub loop-i-preserved : goal.loop-i-preserved
@@ -27,7 +26,7 @@ loop-i-preserved c =
     let t = c.loop-i-test.true in
     let p = c.pass-passed in
     onward-turn (listed a.n a.wishes.now []) (λ u. get_or a.groups.now u 0) (full a.n) a.goals.now l.invariant t (omega arith)
-    refl p.ensures.sum_value c.count.ensures.value (omega (arith, c.if-passed-count.false)) p.ensures.live_value
+    (omega arith) p.ensures.sum_value c.count.ensures.value (omega (arith, c.if-passed-count.false)) p.ensures.live_value
 
 pub returns-clause-short_value : goal.returns-clause-short_value
 returns-clause-short_value c =

@@ -3,7 +3,7 @@ use Prim.Native.Nat.{ℕ}
 use native.Mathlib.Omega.{arith}
 use Rattle.std.proofs.lemmas.Result.{err_from_is_err_and}
 use Rattle.jobfile.proofs.ColumnLaws.{ColumnsFilled, records-start, records-refused, records-turn, records-end}
-use Rattle.jobfile.proofs.records.read_records.Goals as goal
+use Rattle.jobfile.proofs.records.records_from.Goals as goal
 
 pub loop-i-init : goal.loop-i-init
 loop-i-init c = records-start c.args.file.now c.args.kind c.args.count c.args.n c.args.at
