@@ -15,6 +15,14 @@ def items(argument):
     return list(argument if isinstance(argument, bytes) else argument[1])
 
 
+def passed_as(argument):
+    """The slice as an array of C, which the call may write."""
+    if isinstance(argument, bytes):
+        return (SIZES[1] * len(argument)).from_buffer_copy(argument)
+    width, held = argument
+    return (SIZES[width] * len(held))(*held)
+
+
 def slices(arguments):
     return [items(argument) for argument in arguments if not isinstance(argument, int)]
 
@@ -30,10 +38,8 @@ class Library:
             if isinstance(argument, int):
                 passed.append(ctypes.c_uint64(argument))
                 continue
-            held = items(argument)
-            width = 1 if isinstance(argument, bytes) else argument[0]
-            array = (SIZES[width] * len(held))(*held)
-            passed += [array if held else None, ctypes.c_size_t(len(held))]
+            array = passed_as(argument)
+            passed += [array if len(array) else None, ctypes.c_size_t(len(array))]
             arrays.append(array)
         out = (ctypes.c_uint64 * (words + 1))(*[UNTOUCHED] * (words + 1))
         function = getattr(self.library, f"kitchen_{name}")
@@ -41,4 +47,4 @@ class Library:
         status = function(*passed, out)
         if out[words] != UNTOUCHED:
             raise IndexError(f"{name} wrote more than {words} words")
-        return status, tuple(out[:words]), [list(array) for array in arrays]
+        return status, tuple(out[:words]), [array[:] for array in arrays]

@@ -78,10 +78,11 @@ class Reader:
     def set(self, width, bound, may_be_empty):
         """A set whose members are all below the bound."""
         item, place = self.item(width)
-        members = {i for i in range(8 * width) if item[i // 8] >> i % 8 & 1}
+        bits = int.from_bytes(item, "little")  # member i is bit i % 8 of byte i // 8
+        members = {i for i in range(bits.bit_length()) if bits >> i & 1}
         if not members and not may_be_empty:
             raise Refused(5, place)
-        if any(i >= bound for i in members):
+        if max(members, default=-1) >= bound:
             raise Refused(6, place)
         return members
 

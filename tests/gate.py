@@ -634,8 +634,8 @@ def dist():
 
 
 def beside():
-    """The second program beside ours through the C interface, in six minutes of processor time: every sort of comparison, as often as tests/least.py says."""
-    limited = ["sh", "-c", 'ulimit -S -t 360 && exec "$@"', "sh"]  # a command that takes longer is ended by SIGXCPU
+    """The second program beside ours through the C interface, in three minutes of processor time: every sort of comparison, as often as tests/least.py says."""
+    limited = ["sh", "-c", 'ulimit -S -t 180 && exec "$@"', "sh"]  # a command that takes longer is ended by SIGXCPU
     return counted(run([*limited, sys.executable, "-B", "reference/beside.py", built_library()[1]]), least.BESIDE)["comparisons"]
 
 

@@ -38,10 +38,11 @@ pub fn shortest(job: ReadFitting, members: &[u64], words: &[u64], out: &mut [u32
     ensures value { result ≡ planned_by (fewest (fitting_in job) job.horizon) }
     ensures words { Words (fitting_in job) out.old out.new result }
 {
-    let vertices = Vertices::of(job);
-    let carriers = table::transposed(&vertices.gives);
+    // These two come first: further down, compiled code sets the table to zero twice.
     let mut made: [u32; HORIZON] = [0; HORIZON];
     let mut table: [u64; TABLE] = [0; TABLE];
+    let vertices = Vertices::of(job);
+    let carriers = table::transposed(&vertices.gives);
     for k in 0..members.len() + 1 {
         let before = table[0];
         let outcome = extraction::extract(

@@ -33,9 +33,10 @@ pub fn round_layers(job: ReadFitting) -> RoundLayers
     requires { Sized 32 (fitting_in job) × (job.horizon ≤ 16) }
     ensures { Laid (fitting_in job) job.horizon result.members result.words }
 {
-    let vertices = Vertices::of(job);
+    // These two come first: further down, compiled code sets the words to zero twice.
     let mut members: [u64; HORIZON] = [0; HORIZON];
     let mut words: [u64; WORDS] = [0; WORDS];
+    let vertices = Vertices::of(job);
     let mut facts = Layer {
         members: job.start,
         words: [0; 64],

@@ -30,7 +30,7 @@ pub settled : {A : Type 0} (a : A) (c : Result ℕ Refusal) → read_from c (λ 
 settled a (Ok n) = refl
 settled a (Err r) = refl
 
--- if the value a, with the cursor c after it, is what r reads from a cursor, the rest reads on from c
+-- if the value a, with the position c after it, is what r reads from a position, the rest reads on from c; either may be a refusal
 pub advance : {A B : Type 0} (a : A) (c from : Result ℕ Refusal) (r : ℕ → Got A) (k : A → ℕ → Got B) (g : ℕ → Got B)
     → got_by a c ≡ read_from from r → ((n : ℕ) → g n ≡ and_then (r n) k) → read_from from g ≡ read_from c (k a)
 advance a c (Ok n) r k g e h = h n ∙ ap (λ x. and_then x k) (sym e) ∙ onward c
@@ -111,7 +111,7 @@ module _ (f : List ℕ) (kind : ℕ) where
 pub from_at : {A : Type 0} (from : Result ℕ Refusal) {at : ℕ} (reader : ℕ → Got A) {x : Got A} → from ≡ Ok at → x ≡ reader at → x ≡ read_from from reader
 from_at from reader e h = h ∙ ap (λ c. read_from c reader) (sym e)
 
--- one that was refused hands its cursor on
+-- one that was refused before is handed on
 pub from-refused : {A : Type 0} (a : A) (from : Result ℕ Refusal) {r : Refusal} (reader : ℕ → Got A) → from ≡ Err r → got_by a from ≡ read_from from reader
 from-refused a from {r} reader e = ap (got_by a) e ∙ sym (ap (λ c. read_from c reader) e)
 
